@@ -1,0 +1,24 @@
+//! Links the static libraries that `rt staticlib NAME` wrote to target/staticlib.
+
+use std::env;
+use std::path::Path;
+
+/// The Rattle crates whose C functions the wrapper calls.
+const LIBRARIES: [&str; 1] = ["checksum"];
+
+fn main() {
+    println!("cargo::rerun-if-changed=build.rs");
+    let package = env::var_os("CARGO_MANIFEST_DIR").expect("cargo sets it");
+    let folder = Path::new(&package).join("../../target/staticlib");
+    println!("cargo::rustc-link-search=native={}", folder.display());
+    for name in LIBRARIES {
+        let archive = folder.join(format!("lib{name}.a"));
+        println!("cargo::rerun-if-changed={}", archive.display());
+        if !archive.is_file() {
+            println!(
+                "cargo::error=target/staticlib/lib{name}.a is missing: run `rt staticlib {name}`"
+            );
+        }
+        println!("cargo::rustc-link-lib=static={name}");
+    }
+}
