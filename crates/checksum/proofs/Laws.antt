@@ -1,17 +1,19 @@
 -- Laws of lookup3's definitions, in the forms in which the functions' proofs have them.
 use mathlib.Core.Path.{_≡_, refl}
+use mathlib.Core.Bool.{Bool, true, false}
 use mathlib.Core.List.{List, [], _∷_}
 use Prim.Native.Nat.{ℕ, zero, suc, _+_, _-_, _*_, _/_, _%_, _^_, _≤_, _<_}
-use native.Mathlib.Nat.{add-assoc, add-comm, add-zero, sub-zero, add-mod-mod, mul-mod-left, not-suc-le-zero}
+use native.Mathlib.Nat.{add-assoc, add-comm, add-zero, sub-zero, add-mod-mod, mul-mod-left, not-suc-le-zero, lt-of-le-of-lt}
 use native.Mathlib.Omega.{arith}
-use lib.Bits.{bitOr, bitXor, or-shifted}
-use lib.Pow.{mod-pow-add, shl-shr, shr-lt}
+use lib.Bits.{bitOr, bitXor, or-shifted, or-lt, xor-lt}
+use lib.Pow.{mod-pow-add, shl-shr, shr-lt, shr-le}
+use lib.Dec.{ltb, lit<}
 use lib.ListN.{length, getD, drop, List·getD-eq-default, length-drop}
 use lib.Seq.{getD-drop, drop-drop, drop-length}
 use borrow.Author.Needs.{zero≤}
 use borrow.Author.Tests.{lt-ltb, le-ltb}
 use Rattle.checksum.specs.declared.Words.{Words}
-use Rattle.checksum.specs.Lookup3.{plus, minus, rotated, mixLine, finalLine, started, word, blockAdded, ended, blocks, lookup3, finalMixed, mixed}
+use Rattle.checksum.specs.Lookup3.{pick, plus, minus, rotated, mixLine, finalLine, started, word, blockAdded, ended, blocks, lookup3, finalMixed, mixed}
 
 -- mix and final, line after line.
 pub mixed-is : (w v1 v2 v3 v4 v5 v6 : Words) → v1 ≡ mixLine 4 w → v2 ≡ mixLine 6 v1 → v3 ≡ mixLine 8 v2 → v4 ≡ mixLine 16 v3
@@ -158,3 +160,47 @@ left-end d w i r inv h e = rw (e, ← blocks-end (length d - i / 12) w (drop i d
 pub lookup3-empty : lookup3 [] ≡ 0xdeadbeef
 unfolding lookup3 blocks ended started
 lookup3-empty = refl
+
+-- Every checksum is a 32-bit word.
+abbrev Fit : Words → Type 0
+Fit w = (w .a < 2 ^ 32) × (w .b < 2 ^ 32) × (w .c < 2 ^ 32)
+
+word-lt : (x : ℕ) → x % 2 ^ 32 < 2 ^ 32
+word-lt x = omega arith
+
+rotated-lt : (x k : ℕ) → x < 2 ^ 32 → k < 32 → rotated x k < 2 ^ 32
+rotated-lt x k h l =
+    rw (← rot-is x k h l) (or-lt 32 (x * 2 ^ k % 2 ^ 32) (x / 2 ^ (32 - k)) (word-lt (x * 2 ^ k)) (lt-of-le-of-lt (shr-le x (32 - k)) h))
+
+mix-line-fits : (k : ℕ) (w : Words) → k < 32 → Fit w → Fit (mixLine k w)
+unfolding mixLine
+mix-line-fits k w l f =
+    (f .1, word-lt (w .c + w .b), xor-lt 32 (minus (w .a) (w .c)) (rotated (w .c) k) (word-lt _) (rotated-lt (w .c) k (f .2) l))
+
+mixed-fits : (w : Words) → Fit w → Fit (mixed w)
+unfolding mixed
+mixed-fits w f =
+    mix-line-fits 4 _ (lit< tt)
+    (mix-line-fits 19 _ (lit< tt)
+    (mix-line-fits 16 _ (lit< tt)
+    (mix-line-fits 8 _ (lit< tt) (mix-line-fits 6 _ (lit< tt) (mix-line-fits 4 w (lit< tt) f)))))
+
+ended-lt : (w : Words) (d : List ℕ) → Fit w → ended w d < 2 ^ 32
+unfolding ended finalMixed finalLine
+ended-lt w [] f = f .2
+ended-lt w (x ∷ xs) f = word-lt _
+
+pick-lt : (t : Bool) (x y : ℕ) → x < 2 ^ 32 → y < 2 ^ 32 → pick t x y < 2 ^ 32
+pick-lt true x y hx hy = hx
+pick-lt false x y hx hy = hy
+
+blocks-lt : (k : ℕ) (w : Words) (d : List ℕ) → Fit w → blocks k w d < 2 ^ 32
+unfolding blocks blockAdded
+blocks-lt zero w d f = ended-lt w d f
+blocks-lt (suc k) w d f =
+    pick-lt (ltb 12 (length d)) _ _
+    (blocks-lt k (mixed (blockAdded w d)) (drop 12 d) (mixed-fits (blockAdded w d) (word-lt _, word-lt _, word-lt _))) (ended-lt w d f)
+
+pub lookup3-lt : (d : List ℕ) → lookup3 d < 2 ^ 32
+unfolding lookup3 started
+lookup3-lt d = blocks-lt (length d) _ d (word-lt _, word-lt _, word-lt _)
