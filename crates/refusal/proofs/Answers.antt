@@ -1,0 +1,62 @@
+-- Laws of an answer as numbers. (`cc` knows that `accepted` and `refused` differ and give back what they hold.)
+use mathlib.Core.Path.{_≡_}
+use mathlib.Core.List.{List, [], _∷_, _++_, append-assoc}
+use Prim.Native.Nat.{ℕ, suc, _+_, _-_, _≤_}
+use native.Mathlib.Nat.{add-comm}
+use native.Mathlib.Omega.{arith}
+use lib.Dec.{lit≤}
+use lib.ListN.{length, take, replicate, length-take, length-append, length-replicate, replicate-append-replicate}
+use lib.Seq.{take-append-add, take-at}
+use Rattle.refusal.specs.declared.Refusal.{Refusal}
+use Rattle.refusal.specs.declared.Refusal.the-variants.{UnexpectedEof, InvalidBTreeV2Signature, InvalidBTreeV2Version, InvalidOffsetSize, InvalidLengthSize, ChecksumMismatch, InvalidNodeSize, ZeroRecordSize, TooManyRecords, LevelHoldsNone, SubtreeTooThin, RecordBufferLength, CountAboveLengthSize, AddressAboveOffsetSize, OutputTooShort, DepthAboveLimit}
+use Rattle.refusal.specs.Answer.{Answer, accepted, refused, refusalOf, cells}
+
+-- k numbers are k.
+pub length-cells : (k : ℕ) (a : Answer) → length (cells k a) ≡ k
+unfolding cells
+length-cells k (accepted figures) = simp (length-take, length-append, length-replicate) (omega arith)
+length-cells k (refused number values) = simp (length-take, length-append, length-replicate) (omega arith)
+
+-- Where there is room for all, n zeros follow.
+row : (z : ℕ) (l : List ℕ) (k n : ℕ) → k ≡ length l + n → take k (l ++ replicate k z) ≡ l ++ replicate n z
+row z l k n e =
+    rw (e, take-append-add, add-comm, ← replicate-append-replicate n (length l) z, take-at (replicate n z) (replicate (length l) z) n (length-replicate n z))
+
+pub cells-accepted : (k : ℕ) (figures : List ℕ) (n : ℕ) → k ≡ suc (length figures) + n
+    → cells k (accepted figures) ≡ (0 ∷ figures) ++ replicate n 0
+unfolding cells
+cells-accepted k figures n e = row 0 (0 ∷ figures) k n e
+
+pub cells-refused : (k number : ℕ) (values : List ℕ) (n : ℕ) → k ≡ suc (length values) + n
+    → cells k (refused number values) ≡ (number ∷ values) ++ replicate n 0
+unfolding cells
+cells-refused k number values n e = row 0 (number ∷ values) k n e
+
+-- No cause has more than two values, so what `told` tells is all of it: m cells more are zeros.
+more : (m number : ℕ) (values : List ℕ) → length values ≤ 2
+    → cells (m + 3) (refused number values) ≡ cells 3 (refused number values) ++ replicate m 0
+more m number values h =
+    rw (cells-refused (m + 3) number values (2 - length values + m) (omega arith), cells-refused 3 number values (2 - length values) (omega arith), append-assoc, replicate-append-replicate)
+
+pub cells-more : (r : Refusal) (m : ℕ) → cells (m + 3) (refusalOf r) ≡ cells 3 (refusalOf r) ++ replicate m 0
+cells-more (UnexpectedEof expected available) m = more m _ _ (lit≤ tt)
+cells-more InvalidBTreeV2Signature m = more m _ _ (lit≤ tt)
+cells-more (InvalidBTreeV2Version version) m = more m _ _ (lit≤ tt)
+cells-more (InvalidOffsetSize size) m = more m _ _ (lit≤ tt)
+cells-more (InvalidLengthSize size) m = more m _ _ (lit≤ tt)
+cells-more (ChecksumMismatch expected computed) m = more m _ _ (lit≤ tt)
+cells-more (InvalidNodeSize size) m = more m _ _ (lit≤ tt)
+cells-more ZeroRecordSize m = more m _ _ (lit≤ tt)
+cells-more (TooManyRecords count) m = more m _ _ (lit≤ tt)
+cells-more (LevelHoldsNone level) m = more m _ _ (lit≤ tt)
+cells-more SubtreeTooThin m = more m _ _ (lit≤ tt)
+cells-more (RecordBufferLength length) m = more m _ _ (lit≤ tt)
+cells-more (CountAboveLengthSize count) m = more m _ _ (lit≤ tt)
+cells-more (AddressAboveOffsetSize start) m = more m _ _ (lit≤ tt)
+cells-more (OutputTooShort length) m = more m _ _ (lit≤ tt)
+cells-more (DepthAboveLimit depth) m = more m _ _ (lit≤ tt)
+
+-- What `of_two` gives in an arm is the cause's number and values.
+pub told-is : {s t : Refusal} {n x y a b c : ℕ} → s ≡ t → (a ≡ n) × (b ≡ x) × (c ≡ y) → n ∷ x ∷ y ∷ [] ≡ cells 3 (refusalOf t)
+    → a ∷ b ∷ c ∷ [] ≡ cells 3 (refusalOf s)
+told-is e h r = rw (e, h .0, h .1, h .2) r

@@ -1,0 +1,2 @@
+-- The laws of the crate's definitions.
+pub mod Answers

@@ -1,0 +1,89 @@
+// The causes for which a call is refused, and the number and values of each.
+
+ghost use mathlib.Core.Path.{_≡_};
+ghost use mathlib.Core.List.{[], _∷_};
+ghost use Rattle.refusal.specs.Answer.{refusalOf, cells};
+
+// A cause, named as in hdf5-pure where that has it.
+pub enum Refusal {
+    // 1: the file ends early
+    UnexpectedEof { expected: u64, available: u64 },
+    // 2: a signature is not the one due
+    InvalidBTreeV2Signature,
+    // 3: the header's version is not 0
+    InvalidBTreeV2Version(u8),
+    // 4: the offset size is not 2, 4 or 8
+    InvalidOffsetSize(u8),
+    // 5: the length size is not 2, 4 or 8
+    InvalidLengthSize(u8),
+    // 6: the stored checksum is not the computed one
+    ChecksumMismatch { expected: u32, computed: u32 },
+    // 7: the node size is outside 10 to 65,536
+    InvalidNodeSize(u32),
+    // 8: the record size is zero
+    ZeroRecordSize,
+    // 9: more than 16,777,215 records
+    TooManyRecords(u64),
+    // 10: a needed level holds no record
+    LevelHoldsNone(u16),
+    // 11: a subtree has too few records for its depth
+    SubtreeTooThin,
+    // 12: the record buffer is not as long as the records
+    RecordBufferLength(u64),
+    // 13: the record count does not fit the length size
+    CountAboveLengthSize(u64),
+    // 14: an address does not fit the offset size
+    AddressAboveOffsetSize(u64),
+    // 15: an output is too short
+    OutputTooShort(u64),
+    // 16: the depth is above 32
+    DepthAboveLimit(u16),
+}
+
+// A cause's number and its values, 0 where it has fewer than two.
+pub struct Told {
+    pub number: u64,
+    pub first: u64,
+    pub second: u64,
+}
+
+fn of_two(number: u64, first: u64, second: u64) -> Told
+    ensures { λ r. ⌜ (r .number ≡ number) × (r .first ≡ first) × (r .second ≡ second) ⌝ }
+{
+    Told {
+        number,
+        first,
+        second,
+    }
+}
+
+impl Refusal {
+    // The number and values of this cause.
+    pub fn told(self) -> Told
+        ensures { λ r. ⌜ r .number ∷ r .first ∷ r .second ∷ [] ≡ cells 3 (refusalOf self) ⌝ }
+    {
+        match self {
+            Refusal::UnexpectedEof {
+                expected,
+                available,
+            } => of_two(1, expected, available),
+            Refusal::InvalidBTreeV2Signature => of_two(2, 0, 0),
+            Refusal::InvalidBTreeV2Version(version) => of_two(3, version as u64, 0),
+            Refusal::InvalidOffsetSize(size) => of_two(4, size as u64, 0),
+            Refusal::InvalidLengthSize(size) => of_two(5, size as u64, 0),
+            Refusal::ChecksumMismatch { expected, computed } => {
+                of_two(6, expected as u64, computed as u64)
+            }
+            Refusal::InvalidNodeSize(size) => of_two(7, size as u64, 0),
+            Refusal::ZeroRecordSize => of_two(8, 0, 0),
+            Refusal::TooManyRecords(count) => of_two(9, count, 0),
+            Refusal::LevelHoldsNone(level) => of_two(10, level as u64, 0),
+            Refusal::SubtreeTooThin => of_two(11, 0, 0),
+            Refusal::RecordBufferLength(length) => of_two(12, length, 0),
+            Refusal::CountAboveLengthSize(count) => of_two(13, count, 0),
+            Refusal::AddressAboveOffsetSize(start) => of_two(14, start, 0),
+            Refusal::OutputTooShort(length) => of_two(15, length, 0),
+            Refusal::DepthAboveLimit(depth) => of_two(16, depth as u64, 0),
+        }
+    }
+}
