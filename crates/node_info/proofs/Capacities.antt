@@ -1,0 +1,155 @@
+-- Laws of the capacities and field widths of a tree's levels.
+use mathlib.Core.Path.{_≡_, refl}
+use Prim.Native.Nat.{ℕ, zero, suc, _+_, _-_, _*_, _/_, _^_, _≤_, _<_, zero-le}
+use native.Mathlib.Nat.{add-le-add, add-mul, add-sub-cancel, div-le-self, div-mul-le-self, le-div-iff-mul-le, le-refl, le-trans, lt-of-le-of-lt, mul-add, mul-comm, mul-le-mul, mul-le-mul-left, mul-le-mul-right, not-suc-le-zero, one-le-pow, one-mul, pos-of-div-pos, pow-suc, pow-zero, sub-le, suc-add}
+use native.Mathlib.Decide.{le-ind}
+use native.Mathlib.Omega.{arith}
+use lib.Arith.{mul-pred}
+use Rattle.fields.specs.Numbers.{held, width}
+use Rattle.fields.proofs.Numbers.{width-pos, width-le, width-holds, width-mono, held-mono, held-add, held-mul}
+use Rattle.node_info.specs.Capacity.{leafCapacity, countWidth, subtree, pointerSize, internalCapacity, subtreeCapacity, totalWidth, nodeCapacity}
+
+-- From one level to the next, so from a level to any above it.
+rises : (f : ℕ → ℕ) → ((u : ℕ) → f u ≤ f (suc u)) → {u v : ℕ} → u ≤ v → f u ≤ f v
+rises f step {u} {v} h = le-ind (λ (k : ℕ). f u ≤ f k) (le-refl (f u)) (λ k l r. le-trans r (step k)) v h
+
+falls : (f : ℕ → ℕ) → ((u : ℕ) → f (suc u) ≤ f u) → {u v : ℕ} → u ≤ v → f v ≤ f u
+falls f step {u} {v} h = le-ind (λ (k : ℕ). f k ≤ f u) (le-refl (f u)) (λ k l r. le-trans (step k) r) v h
+
+-- A quotient rises with the number and falls with the divisor.
+div-le : (a b : ℕ) {c d : ℕ} → 0 < c → a ≤ b → c ≤ d → a / d ≤ b / c
+div-le a b {c} {d} p h l = le-div-iff-mul-le p .1 (le-trans (mul-le-mul-left (a / d) l) (le-trans (div-mul-le-self a d) h))
+
+-- A subtree holds no less than a child's; and how it grows, from children that hold b and a root that holds m at least.
+subtree-child : (m c : ℕ) → c < 2 ^ 64 → c ≤ subtree m c
+subtree-child m c h = rw (add-mul, one-mul) (omega arith)
+
+subtree-grows : (m b n c : ℕ) → m ≤ n → held b ≤ c → held (b * (m + 1) + m) ≤ subtree n c
+subtree-grows m b n c h l =
+    rw (mul-comm b (m + 1), ← held-add ((m + 1) * b) m, ← held-mul (m + 1) b, held-add ((m + 1) * held b) m)
+    (held-mono ((m + 1) * held b + m) ((n + 1) * c + n) (add-le-add (mul-le-mul (add-le-add h (le-refl 1)) l) h))
+
+module _ (ns rs : ℕ) where
+  pub leaf-le : leafCapacity ns rs ≤ ns
+  unfolding leafCapacity
+  leaf-le = le-trans (div-le-self (ns - 10) rs) (sub-le ns 10)
+
+  -- W is from 1 to 8.
+  pub count-width-pos : 1 ≤ countWidth ns rs
+  unfolding countWidth
+  count-width-pos = width-pos _
+
+  pub count-width-le : countWidth ns rs ≤ 8
+  unfolding countWidth
+  count-width-le = width-le _
+
+module _ (ns rs ow : ℕ) where
+  -- The definitions, level by level.
+  pub node-zero : nodeCapacity ns rs ow 0 ≡ leafCapacity ns rs
+  unfolding nodeCapacity
+  node-zero = refl
+
+  pub subtree-zero : subtreeCapacity ns rs ow 0 ≡ leafCapacity ns rs
+  unfolding subtreeCapacity
+  subtree-zero = refl
+
+  pub total-zero : totalWidth ns rs ow 0 ≡ 0
+  unfolding totalWidth
+  total-zero = refl
+
+  pub node-suc : (u : ℕ) → nodeCapacity ns rs ow (suc u) ≡ internalCapacity ns rs ow (totalWidth ns rs ow u)
+  unfolding nodeCapacity
+  node-suc u = refl
+
+  pub subtree-suc : (u : ℕ)
+      → subtreeCapacity ns rs ow (suc u) ≡ subtree (nodeCapacity ns rs ow (suc u)) (subtreeCapacity ns rs ow u)
+  unfolding subtreeCapacity nodeCapacity totalWidth
+  subtree-suc u = refl
+
+  pub total-suc : (u : ℕ) → totalWidth ns rs ow (suc u) ≡ width (subtreeCapacity ns rs ow (suc u))
+  unfolding totalWidth
+  total-suc u = refl
+
+  -- M is at most the node size, C below 2^64, T at most 8.
+  pub internal-le : (t : ℕ) → internalCapacity ns rs ow t ≤ ns
+  unfolding internalCapacity
+  internal-le t = le-trans (div-le-self (ns - 10 - pointerSize ns rs ow t) (rs + pointerSize ns rs ow t)) (omega arith)
+
+  pub node-le : (u : ℕ) → nodeCapacity ns rs ow u ≤ ns
+  node-le zero = rw node-zero (leaf-le ns rs)
+  node-le (suc u) = rw node-suc (internal-le (totalWidth ns rs ow u))
+
+  held-subtree : (u : ℕ) → subtreeCapacity ns rs ow (suc u) < 2 ^ 64
+  held-subtree u = rw subtree-suc (omega arith)
+
+  pub subtree-lt : ns < 2 ^ 64 → (u : ℕ) → subtreeCapacity ns rs ow u < 2 ^ 64
+  subtree-lt h zero = rw subtree-zero (lt-of-le-of-lt (leaf-le ns rs) h)
+  subtree-lt h (suc u) = held-subtree u
+
+  pub total-le : (u : ℕ) → totalWidth ns rs ow u ≤ 8
+  total-le zero = rw total-zero zero-le
+  total-le (suc u) = rw total-suc (width-le _)
+
+  -- C and T never fall with the level; a level whose nodes hold none adds nothing to C.
+  subtree-up : (u : ℕ) → subtreeCapacity ns rs ow u < 2 ^ 64 → subtreeCapacity ns rs ow u ≤ subtreeCapacity ns rs ow (suc u)
+  subtree-up u h = rw subtree-suc (subtree-child (nodeCapacity ns rs ow (suc u)) (subtreeCapacity ns rs ow u) h)
+
+  pub subtree-rises : ns < 2 ^ 64 → {u v : ℕ} → u ≤ v → subtreeCapacity ns rs ow u ≤ subtreeCapacity ns rs ow v
+  subtree-rises h = rises (subtreeCapacity ns rs ow) (λ u. subtree-up u (subtree-lt h u))
+
+  pub subtree-none : (u : ℕ) → nodeCapacity ns rs ow (suc u) ≡ 0 → subtreeCapacity ns rs ow (suc u) ≤ subtreeCapacity ns rs ow u
+  subtree-none u e = rw (subtree-suc u, e, one-mul) (omega arith)
+
+  total-up : (u : ℕ) → totalWidth ns rs ow u ≤ totalWidth ns rs ow (suc u)
+  total-up zero = rw total-zero zero-le
+  total-up (suc u) = rw (total-suc u, total-suc (suc u)) (width-mono _ _ (subtree-up (suc u) (held-subtree u)))
+
+  pub total-rises : {u v : ℕ} → u ≤ v → totalWidth ns rs ow u ≤ totalWidth ns rs ow v
+  total-rises = rises (totalWidth ns rs ow) total-up
+
+  -- A total fits its field, above the leaves.
+  pub total-fits : (u n : ℕ) → 0 < u → n ≤ subtreeCapacity ns rs ow u → n < 256 ^ totalWidth ns rs ow u
+  total-fits zero n p h = absurd (not-suc-le-zero p)
+  total-fits (suc u) n p h = rw total-suc (lt-of-le-of-lt h (width-holds _ (held-subtree u)))
+
+  -- The bytes of a node fit: of a leaf, and of an internal node of level u + 1.
+  pub leaf-bytes : (n : ℕ) → 10 ≤ ns → n ≤ nodeCapacity ns rs ow 0 → 10 + n * rs ≤ ns
+  unfolding nodeCapacity leafCapacity
+  leaf-bytes n p h = omega (arith, mul-le-mul-right rs h, div-mul-le-self (ns - 10) rs)
+
+  pub internal-bytes : (u n : ℕ) → 0 < nodeCapacity ns rs ow (suc u) → n ≤ nodeCapacity ns rs ow (suc u)
+      → 10 + n * rs + (n + 1) * pointerSize ns rs ow (totalWidth ns rs ow u) ≤ ns
+  unfolding nodeCapacity internalCapacity
+  internal-bytes u n p h =
+      let t = pointerSize ns rs ow (totalWidth ns rs ow u) in
+      let room : n * (rs + t) ≤ ns - 10 - t =
+      le-trans (mul-le-mul-right (rs + t) h) (div-mul-le-self (ns - 10 - t) (rs + t)) in
+      rw (add-mul, one-mul) (omega (arith, pos-of-div-pos (rs + t) p, rw mul-add at room))
+
+  -- For records of a byte or more M never rises with the level, the leaves' included; so a count fits its field, and nodes of m records
+  -- or more make C at least a power, as far as it is not held.
+  module _ (pos : 0 < rs) where
+    node-down : (u : ℕ) → nodeCapacity ns rs ow (suc u) ≤ nodeCapacity ns rs ow u
+    unfolding nodeCapacity internalCapacity leafCapacity pointerSize
+    node-down zero = div-le _ _ pos (sub-le _ _) (omega arith)
+    node-down (suc u) = div-le _ _ (omega arith) (omega (arith, total-up u)) (omega (arith, total-up u))
+
+    pub node-falls : {u v : ℕ} → u ≤ v → nodeCapacity ns rs ow v ≤ nodeCapacity ns rs ow u
+    node-falls = falls (nodeCapacity ns rs ow) node-down
+
+    pub node-le-leaf : (u : ℕ) → nodeCapacity ns rs ow u ≤ leafCapacity ns rs
+    node-le-leaf u = rw node-zero at (node-falls {u = 0} {v = u} zero-le)
+
+    pub count-fits : ns < 2 ^ 64 → (u n : ℕ) → n ≤ nodeCapacity ns rs ow u → n < 256 ^ countWidth ns rs
+    unfolding countWidth
+    count-fits l u n h =
+        lt-of-le-of-lt (le-trans h (node-le-leaf u)) (width-holds (leafCapacity ns rs) (lt-of-le-of-lt (leaf-le ns rs) l))
+
+    pub subtree-power : (m u : ℕ) → m ≤ nodeCapacity ns rs ow u → held ((m + 1) ^ (u + 1) - 1) ≤ subtreeCapacity ns rs ow u
+    subtree-power m zero h =
+        rw (subtree-zero, ← node-zero, pow-suc (m + 1) 0, pow-zero, one-mul) (omega arith)
+    subtree-power m (suc u) h =
+        let q = (m + 1) ^ (u + 1) in
+        let e : (m + 1) ^ (suc u + 1) - 1 ≡ (q - 1) * (m + 1) + m =
+        rw (suc-add u 1, pow-suc (m + 1) (u + 1), mul-pred {p = q} {c = m + 1} (one-le-pow (u + 1) (m + 1) (omega arith)) (omega arith), add-sub-cancel) in
+        rw (e, subtree-suc u) (subtree-grows m (q - 1) _ _ h (subtree-power m u (le-trans h (node-down u))))

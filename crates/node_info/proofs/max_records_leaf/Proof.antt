@@ -1,0 +1,16 @@
+-- `max_records_leaf` is the leaf capacity.
+use Rattle.node_info.proofs.Growing.{leaf-small, leaf-no-size, leaf-is}
+use borrow.Author.Needs.{needs}
+use Rattle.node_info.proofs.max_records_leaf.Statement.{statement}
+use Rattle.node_info.proofs.max_records_leaf.Tie as tie
+
+pub max-records-leaf-spec : {M : Type 1} → statement M
+max-records-leaf-spec =
+    tie.close
+    (tie.spec
+    (λ c. leaf-small _ _ (c .if1 .taken))
+    (λ c. leaf-no-size _ _ (c .if2 .taken))
+    (λ c. search needs)
+    (λ c. search needs)
+    (λ c. search needs)
+    (λ c. leaf-is _ _))

@@ -1,0 +1,196 @@
+// The capacity table of a version 2 B-tree: what a node and a subtree of each level hold, and the widths of a child pointer's fields.
+
+ghost use mathlib.Core.Path.{_≡_};
+ghost use lib.Dec.{leb};
+ghost use Rattle.fields.specs.Numbers.{pick, width};
+ghost use Rattle.node_info.specs.Capacity.{leafCapacity, countWidth, subtree, internalCapacity, subtreeCapacity, depthFor};
+ghost use Rattle.node_info.specs.Table.{infoAt, noInfo, tabled, tableAnswer};
+
+// The table; an entry above the depth that it was made for is 0.
+pub struct NodeInfo {
+    // width of a child's record count (W)
+    pub max_nrec_size: u8,
+    // width of a subtree's total, by the level of the subtree's root (T)
+    pub cum_max_nrec_size: [u8; 33],
+    // records in a full node of each level (M)
+    pub max_nrec: [u64; 33],
+    // records in a full subtree of each level (C)
+    pub cum_max_nrec: [u64; 33],
+}
+
+pub enum Verdict {
+    Accepted,
+    Refused(refusal::Refusal),
+}
+
+// An array can't stand in an enum, so the table stands beside the verdict: all zeros where it is refused.
+pub struct NodeInfoAnswer {
+    pub verdict: Verdict,
+    pub info: NodeInfo,
+}
+
+// A table deep enough for a record count, its depth, and whether it is enough.
+pub struct Deepened {
+    pub info: NodeInfo,
+    pub depth: u16,
+    pub enough: bool,
+}
+
+// Records in a full leaf.
+fn max_records_leaf(node_size: u32, record_size: u16) -> u64
+    ensures { λ r. ⌜ r ≡ leafCapacity «node_size» «record_size» ⌝ }
+{
+    if node_size <= NodeInfo::OVERHEAD {
+        return 0;
+    }
+    if record_size == 0 {
+        return 0;
+    }
+    (node_size - NodeInfo::OVERHEAD) as u64 / (record_size as u64)
+}
+
+// Records in a full internal node whose pointers have counts of `wide` bytes and totals of `total` bytes.
+fn max_records_internal(
+    node_size: u32,
+    record_size: u16,
+    offset_size: u8,
+    wide: u8,
+    total: u8,
+) -> u64
+    requires { ⌜ wide ≡ countWidth «node_size» «record_size» ⌝ }
+    ensures { λ r. ⌜ r ≡ internalCapacity «node_size» «record_size» «offset_size» total ⌝ }
+{
+    let pointer = (offset_size as u64) + (wide as u64) + (total as u64);
+    let taken = NodeInfo::OVERHEAD as u64 + pointer;
+    let room = node_size as u64;
+    if room <= taken {
+        return 0;
+    }
+    (room - taken) / ((record_size as u64) + pointer)
+}
+
+// A level's entries: T, M and C.
+struct Level {
+    total: u8,
+    most: u64,
+    all: u64,
+}
+
+// The entries of the level above one whose subtrees hold `under` records and have totals of `total` bytes.
+fn level_above(
+    node_size: u32,
+    record_size: u16,
+    offset_size: u8,
+    wide: u8,
+    total: u8,
+    under: u64,
+) -> Level
+    requires { ⌜ wide ≡ countWidth «node_size» «record_size» ⌝ }
+    ensures { λ r. ⌜ (r .most ≡ internalCapacity «node_size» «record_size» «offset_size» total) × (r .all ≡ subtree (r .most) under) × (r .total ≡ width (r .all)) ⌝ }
+{
+    let most = max_records_internal(node_size, record_size, offset_size, wide, total);
+    let all = fields::saturating_add(fields::saturating_mul(most + 1, under), most);
+    Level {
+        total: fields::bytes_for_max_records(all),
+        most,
+        all,
+    }
+}
+
+impl NodeInfo {
+    // Bytes of a node beside its records and pointers: signature, version, type, checksum.
+    pub const OVERHEAD: u32 = 10;
+    // The highest level of a table.
+    pub const LEVEL_LIMIT: u16 = 32;
+
+    // The table of the leaf level alone, from which every table grows.
+    pub fn leaf_only(node_size: u32, record_size: u16) -> NodeInfo
+        ensures { λ r. ⌜ r ≡ infoAt «node_size» «record_size» 0 0 ⌝ }
+    {
+        let most = max_records_leaf(node_size, record_size);
+        let wide = fields::bytes_for_max_records(most);
+        let mut max_nrec = [0u64; 33];
+        max_nrec[0] = most;
+        let mut cum_max_nrec = [0u64; 33];
+        cum_max_nrec[0] = most;
+        NodeInfo {
+            max_nrec_size: wide,
+            cum_max_nrec_size: [0u8; 33],
+            max_nrec,
+            cum_max_nrec,
+        }
+    }
+
+    // The table of nothing: all zeros.
+    pub fn none() -> NodeInfo
+        ensures { λ r. ⌜ r ≡ noInfo ⌝ }
+    {
+        NodeInfo {
+            max_nrec_size: 0,
+            cum_max_nrec_size: [0u8; 33],
+            max_nrec: [0u64; 33],
+            cum_max_nrec: [0u64; 33],
+        }
+    }
+
+    // The table of a tree of this depth.
+    pub fn compute(node_size: u32, record_size: u16, offset_size: u8, depth: u16) -> NodeInfoAnswer
+        ensures { λ r. ⌜ (tableAnswer (r .verdict) (r .info) ≡ tabled «node_size» «record_size» «offset_size» depth) × (r .info ≡ pick (leb depth 32) (infoAt «node_size» «record_size» «offset_size» depth) noInfo) ⌝ }
+    {
+        if NodeInfo::LEVEL_LIMIT < depth {
+            return NodeInfoAnswer {
+                verdict: Verdict::Refused(refusal::Refusal::DepthAboveLimit(depth)),
+                info: NodeInfo::none(),
+            };
+        }
+        let mut info = NodeInfo::leaf_only(node_size, record_size);
+        let wide = info.max_nrec_size;
+        let mut u = 0;
+        while u < depth as usize {
+            let below = u;
+            u += 1;
+            let total = info.cum_max_nrec_size[below];
+            let under = info.cum_max_nrec[below];
+            let level = level_above(node_size, record_size, offset_size, wide, total, under);
+            info.cum_max_nrec_size[u] = level.total;
+            info.max_nrec[u] = level.most;
+            info.cum_max_nrec[u] = level.all;
+        }
+        NodeInfoAnswer {
+            verdict: Verdict::Accepted,
+            info,
+        }
+    }
+
+    // The table deepened until it is enough for `records`, or until a level holds none or the highest is reached.
+    pub fn for_record_count(
+        node_size: u32,
+        record_size: u16,
+        offset_size: u8,
+        records: u64,
+    ) -> Deepened
+        ensures { λ r. ⌜ (r .depth ≡ depthFor «node_size» «record_size» «offset_size» records) × (r .info ≡ infoAt «node_size» «record_size» «offset_size» (r .depth)) × (r .enough ≡ leb records (subtreeCapacity «node_size» «record_size» «offset_size» (r .depth))) ⌝ }
+    {
+        let mut info = NodeInfo::leaf_only(node_size, record_size);
+        let wide = info.max_nrec_size;
+        let mut u = 0;
+        while u < NodeInfo::LEVEL_LIMIT as usize
+            && info.cum_max_nrec[u] < records
+            && 0 < info.max_nrec[u]
+        {
+            let total = info.cum_max_nrec_size[u];
+            let under = info.cum_max_nrec[u];
+            let level = level_above(node_size, record_size, offset_size, wide, total, under);
+            u += 1;
+            info.cum_max_nrec_size[u] = level.total;
+            info.max_nrec[u] = level.most;
+            info.cum_max_nrec[u] = level.all;
+        }
+        let enough = records <= info.cum_max_nrec[u];
+        Deepened {
+            info,
+            depth: u as u16,
+            enough,
+        }
+    }
+}
