@@ -1,0 +1,174 @@
+-- The nodes of an accepted write, read back: collecting puts out its records, all of them and in order.
+use mathlib.Core.Path.{_≡_, refl, sym}
+use mathlib.Core.List.{List, _++_}
+use Prim.Native.Nat.{ℕ, zero, suc, _+_, _*_, _≤_, _<_}
+use native.Mathlib.Nat.{le-refl, le-trans, zero-add, zero-mul, mul-le-mul-left}
+use native.Mathlib.Omega.{arith}
+use lib.ListN.{length, drop}
+use borrow.Author.Tests.{le-leb, lt-ltb, ne-eqb}
+use Rattle.checksum.proofs.Laws.{lookup3-lt}
+use Rattle.fields.specs.Numbers.{part}
+use Rattle.fields.proofs.Lists.{stored-is}
+use Rattle.node_info.specs.Capacity.{leafCapacity, subtreeCapacity, nodeCapacity, pointerSize}
+use Rattle.node_info.proofs.Capacities.{node-le-leaf, count-fits, total-fits, leaf-bytes, internal-bytes}
+use Rattle.node_info.proofs.Depth.{depth-le}
+use Rattle.refusal.specs.Answer.{accepted}
+use Rattle.plan.specs.Tree.{Kids, last, more, Tree, count, size}
+use Rattle.plan.specs.Planned.{planDepth, planned}
+use Rattle.plan.proofs.Checks.{Plannable, accepted-plannable}
+use Rattle.plan.proofs.Plans.{plan-size, plan-filled, plan-within}
+use Rattle.plan.proofs.Depths.{depth-levels}
+use Rattle.plan.proofs.Trees.{AllKids, Everywhere, everywhere-root, Filled, Within, leaves-inner, nodes-kinds, nodes-le-size}
+use Rattle.format.specs.Bytes.{address}
+use Rattle.format.specs.Walk.{fine, noCounts, nodeRun}
+use Rattle.format.specs.Writing.{Request, formOf, depthOf, nodesOf, imageOf, rootOf, rootRecordsOf, written}
+use Rattle.format.specs.Reading.{headerFigures, parsed, collectTests, sourceOf, collected}
+use Rattle.format.specs.Return.{headerWritten, Returned}
+use Rattle.format.proofs.Accepted.{Accepts, accepts, root-fits}
+use Rattle.format.proofs.Lengths.{nodeLength, Fit, Room, rows-all, length-image}
+use Rattle.format.proofs.Sound.{treeTally}
+use Rattle.format.proofs.Image.{sourceFor, Imaged, collecting-passes, image-walks}
+
+-- What two properties at every node give. (To stand in plan/proofs/Trees.)
+all-kids-both : {A : Type 0} (P Q R : A → Type 0) → ((t : A) → P t → Q t → R t) → (ts : Kids A) → AllKids P ts → AllKids Q ts → AllKids R ts
+all-kids-both P Q R h (last t) p q = h t p q
+all-kids-both P Q R h (more t ts) p q = (h t (p .0) (q .0), all-kids-both P Q R h ts (p .1) (q .1))
+
+everywhere-both : (P Q R : (u : ℕ) → Tree u → Type 0) → ((u : ℕ) (t : Tree u) → P u t → Q u t → R u t)
+    → (d : ℕ) (t : Tree d) → Everywhere P d t → Everywhere Q d t → Everywhere R d t
+everywhere-both P Q R h zero n p q = h zero n p q
+everywhere-both P Q R h (suc d) ts p q =
+    (h (suc d) ts (p .0) (q .0), all-kids-both _ _ _ (everywhere-both P Q R h d) ts (p .1) (q .1))
+
+module _ (q : Request) where
+  -- The capacities of a node and of a subtree by the level, and the planned tree.
+  abbrev most : ℕ → ℕ
+  most = nodeCapacity (q .ns) (q .rs) (q .ow)
+
+  abbrev whole : ℕ → ℕ
+  whole = subtreeCapacity (q .ns) (q .rs) (q .ow)
+
+  abbrev tree : Tree (depthOf q)
+  tree = planned (q .n) (q .rs) (q .ns) (q .ow)
+
+  -- A node within the capacities fits the node size, and what its pointer tells fits the pointer's fields.
+  module _ (plan : Plannable (q .n) (q .rs) (q .ns) (q .ow)) where
+    abbrev Held : (u : ℕ) → Tree u → Type 0
+    Held u t = (count u t ≤ most u) × (size u t ≤ whole u)
+
+    low : 10 ≤ q .ns
+    low = omega arith
+
+    high : q .ns ≤ 65536
+    high = omega arith
+
+    positive : 0 < q .rs
+    positive = omega arith
+
+    node-fits : (u : ℕ) (t : Tree u) → Held u t → 1 ≤ count u t → nodeLength (formOf q) u (count u t) ≤ q .ns
+    unfolding formOf pointerSize
+    node-fits zero t w f = leaf-bytes (q .ns) (q .rs) (q .ow) (count 0 t) low (w .0)
+    node-fits (suc u) t w f = internal-bytes (q .ns) (q .rs) (q .ow) u (count (suc u) t) (omega arith) (w .0)
+
+    records-fit : (u k : ℕ) → nodeLength (formOf q) u k ≤ q .ns → k < 65536
+    unfolding formOf
+    records-fit zero k h = omega (arith, high, mul-le-mul-left k positive)
+    records-fit (suc u) k h = omega (arith, high, mul-le-mul-left k positive)
+
+    fit : (u : ℕ) (t : Tree u) → Held u t → 1 ≤ count u t → Fit (formOf q) u t
+    unfolding formOf
+    fit u t w f =
+        record {
+          node = node-fits u t w f;
+          records = count-fits (q .ns) (q .rs) (q .ow) positive (omega (arith, high)) u (count u t) (w .0);
+          small = records-fit u (count u t) (node-fits u t w f);
+          total = λ h. total-fits (q .ns) (q .rs) (q .ow) u (size u t) h (w .1);
+        }
+
+  -- An accepted write of one record or more.
+  module _ (recs : List ℕ) (a : Accepts q recs) (some : 1 ≤ q .n) where
+    plan : Plannable (q .n) (q .rs) (q .ns) (q .ow)
+    plan = accepted-plannable (q .n) (q .rs) (q .ns) (q .ow) (a .figures) (a .plan) .0
+
+    sized : size (depthOf q) tree ≡ q .n
+    unfolding planned
+    sized = plan-size whole (depthOf q) (q .n) (plan .thick some)
+
+    filled : Filled (depthOf q) tree
+    unfolding planned
+    filled = plan-filled whole (depthOf q) (q .n) (plan .thick some)
+
+    within : Within most whole (depthOf q) tree
+    unfolding planned planDepth
+    within =
+        plan-within whole most (depthOf q) (q .n) (depth-levels (q .n) (q .rs) (q .ns) (q .ow) (positive plan) (plan .enough)) (plan .thick some) (plan .enough)
+
+    fits : Everywhere (Fit (formOf q)) (depthOf q) tree
+    fits = everywhere-both (Held plan) (λ u t. 1 ≤ count u t) (Fit (formOf q)) (fit plan) (depthOf q) tree within filled
+
+    pub root-some : 1 ≤ rootRecordsOf q
+    unfolding rootRecordsOf
+    root-some = everywhere-root (λ u t. 1 ≤ count u t) (depthOf q) tree filled
+
+    pub root-held : rootRecordsOf q ≤ leafCapacity (q .ns) (q .rs)
+    unfolding rootRecordsOf
+    root-held = le-trans (everywhere-root (Held plan) (depthOf q) tree within .0) (node-le-leaf (q .ns) (q .rs) (q .ow) (positive plan) (depthOf q))
+
+    deep : depthOf q ≤ 32
+    unfolding planDepth
+    deep = depth-le (q .ns) (q .rs) (q .ow) (q .n)
+
+    room : Room (formOf q) (q .start) recs 0 (size (depthOf q) tree)
+    unfolding formOf
+    room = rw (zero-add, sized, a .records) (le-refl (q .n * q .rs))
+
+    -- Its nodes stand in the file, and there is room in the output.
+    module _ (file out : List ℕ) (stands : part file (q .start) (nodesOf q * q .ns) ≡ imageOf q recs) (long : q .n * q .rs ≤ length out) where
+      imaged : Imaged (formOf q) (q .start) recs file (depthOf q) tree 0 0
+      unfolding address formOf nodesOf imageOf rootOf
+      imaged =
+          let e : q .start + 0 * q .ns ≡ q .start = omega arith in
+          record {
+            fits = fits;
+            room = room;
+            reach = rw zero-add (root-fits q recs a);
+            stands = rw (length-image (formOf q) (q .start) recs (depthOf q) tree 0 0 fits room, e) stands;
+          }
+
+      walks : nodeRun (sourceFor (formOf q) file) (collectTests (sourceFor (formOf q) file)) (depthOf q) (rootOf q) (rootRecordsOf q) noCounts out
+          ≡ fine (treeTally (depthOf q) tree) (recs ++ drop (q .n * q .rs) out)
+      unfolding rootOf rootRecordsOf formOf
+      walks =
+          let passes = collecting-passes (formOf q) (q .start) recs file lookup3-lt (a .offset) in
+          let w = image-walks (formOf q) (q .start) recs file (collectTests (sourceFor (formOf q) file)) passes (depthOf q) tree 0 0 imaged noCounts out (rw (zero-add, sized) long) in
+          let all = rows-all (formOf q) (q .start) recs (size (depthOf q) tree) (rw sized (a .records)) in
+          simp (zero-add, zero-mul, all, stored-is, a .records) at w
+
+      pub collects : collected file (headerWritten q) (q .ow) out ≡ fine (treeTally (depthOf q) tree) (recs ++ drop (q .n * q .rs) out)
+      unfolding collected headerWritten sourceOf formOf
+      collects =
+          let root = root-some in
+          rw (ne-eqb (q .n) 0 (λ e. omega arith), ne-eqb (rootRecordsOf q) 0 (λ e. omega arith), lt-ltb 0 (q .rs) (positive plan), le-leb (depthOf q) 32 deep)
+          walks
+
+      -- With the header read back, all is returned.
+      pub returned : (o : ℕ) → parsed file o (q .ow) (q .lw) ≡ accepted (headerFigures (headerWritten q)) → Returned q recs file o out
+      unfolding nodesOf
+      returned o h =
+          record {
+            counts = treeTally (depthOf q) tree;
+            header = h;
+            output = collects;
+            records = sized;
+            leavesPlanned = refl;
+            oneMore = leaves-inner (depthOf q) tree;
+            allNodes = sym (nodes-kinds (depthOf q) tree);
+            atMost = rw sized at (nodes-le-size (depthOf q) tree filled);
+          }
+
+-- The same, of the write's own answer.
+pub written-returned : (q : Request) (recs headerEntry imageEntry figures file out : List ℕ) (o : ℕ)
+    → written q recs headerEntry imageEntry ≡ accepted figures → 1 ≤ q .n → part file (q .start) (nodesOf q * q .ns) ≡ imageOf q recs
+    → q .n * q .rs ≤ length out → parsed file o (q .ow) (q .lw) ≡ accepted (headerFigures (headerWritten q)) → Returned q recs file o out
+written-returned q recs headerEntry imageEntry figures file out o e some stands long h =
+    returned q recs (accepts q recs headerEntry imageEntry figures e) some file out stands long o h

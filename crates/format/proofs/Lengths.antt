@@ -1,0 +1,99 @@
+-- The lengths of the parts of an image.
+use mathlib.Core.Path.{_≡_}
+use mathlib.Core.List.{List, _++_}
+use Prim.Native.Nat.{ℕ, zero, suc, _+_, _*_, _^_, _≤_, _<_}
+use native.Mathlib.Nat.{add-mul, zero-mul}
+use native.Mathlib.Omega.{arith}
+use lib.ListN.{length, length-append, length-replicate}
+use lib.Seq.{take-all}
+use Rattle.fields.proofs.Lists.{length-part, part-add}
+use Rattle.fields.proofs.Numbers.{le-length}
+use Rattle.plan.specs.Tree.{Kids, last, more, Tree, sumKids, between, count, size, below, nodes}
+use Rattle.plan.proofs.Trees.{AllKids, Everywhere}
+use Rattle.format.specs.Bytes.{Form, summed, padded, pointerBytes, rows, leafBytes, pointer, pointers, ownRows, internalBytes, kidsImage, image}
+
+-- The bytes of a pointer to a child of level d, and of a node of k records.
+abbrev pub pointerLength : Form → ℕ → ℕ
+pointerLength g d = g .ow + g .cw + g .tw d
+
+abbrev pub nodeLength : Form → ℕ → ℕ → ℕ
+nodeLength g zero k = 10 + k * g .rs
+nodeLength g (suc d) k = 10 + k * g .rs + (k + 1) * pointerLength g d
+
+-- A node fits the node size; its record count, and the total of its subtree unless it is a leaf, fit the fields of the pointer to it.
+pub record Fit (g : Form) (u : ℕ) (t : Tree u) : Type 0 where
+  pub node : nodeLength g u (count u t) ≤ g .ns
+  pub records : count u t < 256 ^ g .cw
+  pub small : count u t < 65536
+  pub total : 0 < u → size u t < 256 ^ g .tw u
+
+pub length-summed : (b : List ℕ) → length (summed b) ≡ length b + 4
+unfolding summed
+length-summed b = rw (length-append, le-length)
+
+pub length-padded : (ns : ℕ) (b : List ℕ) → 4 + length b ≤ ns → length (padded ns b) ≡ ns
+unfolding padded
+length-padded ns b h = rw (length-append, length-replicate, length-summed) (omega arith)
+
+module _ (g : Form) (start : ℕ) (recs : List ℕ) where
+  -- There are m records from record r on.
+  abbrev pub Room : ℕ → ℕ → Type 0
+  Room r m = (r + m) * g .rs ≤ length recs
+
+  pub length-rows : (r n : ℕ) → Room r n → length (rows g start recs r n) ≡ n * g .rs
+  unfolding rows
+  length-rows r n h = length-part recs (r * g .rs) (n * g .rs) (omega arith)
+
+  pub rows-all : (n : ℕ) → length recs ≡ n * g .rs → rows g start recs 0 n ≡ recs
+  unfolding rows
+  rows-all n e = rw (zero-mul, take-all (n * g .rs) recs (omega arith))
+
+  pub rows-add : (r m n : ℕ) → rows g start recs r m ++ rows g start recs (r + m) n ≡ rows g start recs r (m + n)
+  unfolding rows
+  rows-add r m n = rw (add-mul r m, add-mul m n, part-add)
+
+  pub length-leaf : (n r : ℕ) → Room r n → length (leafBytes g start recs n r) ≡ 6 + n * g .rs
+  unfolding leafBytes
+  length-leaf n r h = omega (arith, length-rows r n h)
+
+  module _ (d : ℕ) where
+    pub length-pointer : (t : Tree d) (j : ℕ) → length (pointer g start recs d t j) ≡ pointerLength g d
+    unfolding pointer pointerBytes
+    length-pointer t j = simp (length-append, le-length) (omega arith)
+
+    pub length-pointers : (ts : Kids (Tree d)) (j : ℕ) → length (pointers g start recs d ts j) ≡ (between ts + 1) * pointerLength g d
+    unfolding pointers between
+    length-pointers (last t) j = omega (arith, length-pointer t j)
+    length-pointers (more t ts) j =
+        rw (length-append, length-pointer t j, length-pointers ts (j + nodes d t)) (omega arith)
+
+    pub length-own : (ts : Kids (Tree d)) (r : ℕ) → Room r (sumKids (size d) ts + between ts)
+        → length (ownRows g start recs d ts r) ≡ between ts * g .rs
+    unfolding ownRows between sumKids
+    length-own (last t) r h = rw zero-mul
+    length-own (more t ts) r h =
+        rw (length-append, length-rows (r + size d t) 1 (omega arith), length-own ts (r + size d t + 1) (omega arith)) (omega arith)
+
+    pub length-internal : (ts : Kids (Tree d)) (j r : ℕ) → Room r (sumKids (size d) ts + between ts)
+        → length (internalBytes g start recs d ts j r) ≡ 6 + between ts * g .rs + (between ts + 1) * pointerLength g d
+    unfolding internalBytes
+    length-internal ts j r h =
+        omega (arith, length-append (ownRows g start recs d ts r) (pointers g start recs d ts j), length-own ts r h, length-pointers ts j)
+
+    -- The nodes of all children, if the image of each has its length.
+    pub length-children : ((t : Tree d) (j r : ℕ) → Everywhere (Fit g) d t → Room r (size d t) → length (image g start recs d t j r) ≡ nodes d t * g .ns)
+        → (ts : Kids (Tree d)) (j r : ℕ) → AllKids (Everywhere (Fit g) d) ts → Room r (sumKids (size d) ts + between ts)
+        → length (kidsImage g start recs d (image g start recs d) ts j r) ≡ sumKids (nodes d) ts * g .ns
+    unfolding kidsImage sumKids between
+    length-children each (last t) j r f h = each t j r f (omega arith)
+    length-children each (more t ts) j r f h =
+        rw (length-append, each t j r (f .0) (omega arith), length-children each ts (j + nodes d t) (r + size d t + 1) (f .1) (omega arith)) (omega arith)
+
+  pub length-image : (d : ℕ) (t : Tree d) (j r : ℕ) → Everywhere (Fit g) d t → Room r (size d t)
+      → length (image g start recs d t j r) ≡ nodes d t * g .ns
+  unfolding image nodes below size count
+  length-image zero n j r f h =
+      rw (length-padded (g .ns) (leafBytes g start recs n r) (omega (arith, length-leaf n r h, f .node))) (omega arith)
+  length-image (suc d) ts j r f h =
+      rw (length-append, length-children d (length-image d) ts j r (f .1) h, length-padded (g .ns) (internalBytes g start recs d ts j r) (omega (arith, length-internal d ts j r h, f .0 .node)))
+      (omega arith)

@@ -1,0 +1,93 @@
+-- The bytes of a header, a leaf, an internal node and a whole tree: from the HDF5 File Format Specification, "Version 2 B-trees"; how nodes
+-- are numbered and placed, and the zeros after a node, from document 01, "Header and node image".
+use Prim.Native.Nat.{ℕ, zero, suc, _+_, _-_, _*_}
+use mathlib.Core.List.{List, [], _∷_, _++_}
+use lib.ListN.{length, replicate}
+use Rattle.checksum.specs.Lookup3.{lookup3}
+use Rattle.fields.specs.Numbers.{le, part}
+use Rattle.plan.specs.Tree.{Kids, last, more, Tree, count, size, below, nodes}
+
+-- The signatures `BTHD`, `BTLF` and `BTIN`.
+abbrev pub headerSignature : List ℕ
+headerSignature = 66 ∷ 84 ∷ 72 ∷ 68 ∷ []
+
+abbrev pub leafSignature : List ℕ
+leafSignature = 66 ∷ 84 ∷ 76 ∷ 70 ∷ []
+
+abbrev pub internalSignature : List ℕ
+internalSignature = 66 ∷ 84 ∷ 73 ∷ 78 ∷ []
+
+-- What all nodes of a tree share: tree type, node size, record size, offset size, the width of a record count, and the width of the total
+-- of a subtree by the level of its root.
+pub record Form : Type 0 where
+  pub kind : ℕ
+  pub ns : ℕ
+  pub rs : ℕ
+  pub ow : ℕ
+  pub cw : ℕ
+  pub tw : ℕ → ℕ
+
+-- Bytes with their checksum after them.
+unfoldable pub summed : List ℕ → List ℕ
+summed b = b ++ le 4 (lookup3 b)
+
+-- A node's bytes with its checksum, and zeros to the node size.
+unfoldable pub padded : ℕ → List ℕ → List ℕ
+padded ns b = summed b ++ replicate (ns - length (summed b)) 0
+
+-- The bytes of a child pointer: address, record count, and total where its width is not 0.
+unfoldable pub pointerBytes : Form → ℕ → ℕ → ℕ → ℕ → List ℕ
+pointerBytes g d address records total = le (g .ow) address ++ (le (g .cw) records ++ le (g .tw d) total)
+
+-- The address of node j where node 0 is at start.
+unfoldable pub address : Form → ℕ → ℕ → ℕ
+address g start j = start + j * g .ns
+
+-- The tree of the records recs, its nodes from address start on.
+module _ (g : Form) (start : ℕ) (recs : List ℕ) where
+  -- Records r to r + n - 1 of the list.
+  unfoldable pub rows : ℕ → ℕ → List ℕ
+  rows r n = part recs (r * g .rs) (n * g .rs)
+
+  -- A leaf of n records, the first of them record r.
+  unfoldable pub leafBytes : ℕ → ℕ → List ℕ
+  leafBytes n r = leafSignature ++ (0 ∷ g .kind ∷ rows r n)
+
+  -- The pointer to a subtree of depth d whose first node is node j.
+  unfoldable pub pointer : (d : ℕ) → Tree d → ℕ → List ℕ
+  pointer d t j = pointerBytes g d (address g start (j + below d t)) (count d t) (size d t)
+
+  -- The pointers to the children, of depth d; the first node below is node j.
+  unfoldable pub pointers : (d : ℕ) → Kids (Tree d) → ℕ → List ℕ
+  pointers d (last t) j = pointer d t j
+  pointers d (more t ts) j = pointer d t j ++ pointers d ts (j + nodes d t)
+
+  -- The node's own records; the first record below is record r.
+  unfoldable pub ownRows : (d : ℕ) → Kids (Tree d) → ℕ → List ℕ
+  ownRows d (last t) r = []
+  ownRows d (more t ts) r = rows (r + size d t) 1 ++ ownRows d ts (r + size d t + 1)
+
+  -- An internal node whose children have depth d; its first node below is node j, its first record below record r.
+  unfoldable pub internalBytes : (d : ℕ) → Kids (Tree d) → ℕ → ℕ → List ℕ
+  internalBytes d ts j r = internalSignature ++ (0 ∷ g .kind ∷ (ownRows d ts r ++ pointers d ts j))
+
+  -- The nodes of the children, one child after another, each made by f.
+  unfoldable pub kidsImage : (d : ℕ) → (Tree d → ℕ → ℕ → List ℕ) → Kids (Tree d) → ℕ → ℕ → List ℕ
+  kidsImage d f (last t) j r = f t j r
+  kidsImage d f (more t ts) j r = f t j r ++ kidsImage d f ts (j + nodes d t) (r + size d t + 1)
+
+  -- The nodes of a tree, children first, its root last; the first node is node j, the first record record r.
+  unfoldable pub image : (d : ℕ) → Tree d → ℕ → ℕ → List ℕ
+  image zero n j r = padded (g .ns) (leafBytes n r)
+  image (suc d) ts j r = kidsImage d (image d) ts j r ++ padded (g .ns) (internalBytes d ts j r)
+
+-- The header's bytes: split percent 100, merge percent 40.
+unfoldable pub headerBytes : Form → ℕ → ℕ → ℕ → ℕ → ℕ → List ℕ
+headerBytes g lw depth root rootRecords n =
+    summed
+    (headerSignature
+    ++ (0
+    ∷ g .kind
+    ∷ (le 4 (g .ns)
+    ++ (le 2 (g .rs)
+    ++ (le 2 depth ++ (100 ∷ 40 ∷ (le (g .ow) root ++ (le 2 rootRecords ++ le lw n))))))))

@@ -1,0 +1,1 @@
+// What writer and readers share: definitions and laws alone; no code.

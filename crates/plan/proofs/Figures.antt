@@ -1,0 +1,15 @@
+-- The figures of document 01, computed.
+use mathlib.Core.Path.{_≡_, refl}
+use mathlib.Core.List.{List, map}
+use Prim.Native.Nat.{ℕ}
+use Rattle.fields.specs.Numbers.{fieldSize, width, leastFrom}
+use Rattle.refusal.specs.Answer.{cells}
+use Rattle.node_info.specs.Capacity.{leafCapacity, countWidth, pointerSize, internalCapacity, subtreeCapacity, totalWidth, nodeCapacity, depthFrom, depthFor}
+use Rattle.node_info.specs.Table.{columnFrom, column, infoAt}
+use Rattle.plan.specs.Tree.{sumKids, between, size, below, nodes, leaves}
+use Rattle.plan.specs.Planned.{taken, dealt, children, kidsOf, planTree, anyOf, thin, planDepth, planned, planFigures, planChecks, planAnswer}
+use Rattle.plan.specs.Figures.{joinKids, counts, betweenFrom, rootRecords, plan, figures}
+
+pub figures-hold : map (λ (r : List ℕ × List ℕ). r .0) figures ≡ map (λ (r : List ℕ × List ℕ). r .1) figures
+unfolding fieldSize width leastFrom cells leafCapacity countWidth pointerSize internalCapacity subtreeCapacity totalWidth nodeCapacity depthFrom depthFor columnFrom column infoAt sumKids between size below nodes leaves taken dealt children kidsOf planTree anyOf thin planDepth planned planFigures planChecks planAnswer joinKids counts betweenFrom rootRecords plan figures
+figures-hold = refl

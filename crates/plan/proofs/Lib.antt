@@ -1,0 +1,12 @@
+-- The laws of the crate's definitions, which the crates above cite too.
+pub mod Accepted
+pub mod Checks
+pub mod Counting
+pub mod Dealing
+pub mod Depths
+pub mod Figures
+pub mod Laying
+pub mod Lists
+pub mod Plans
+pub mod Thin
+pub mod Trees

@@ -1,0 +1,91 @@
+-- Laws of trees by their numbers of records, by induction on the depth; and what holds of every child and at every node.
+use mathlib.Core.Path.{_≡_, refl}
+use Prim.Native.Nat.{ℕ, zero, suc, _+_, _≤_}
+use native.Mathlib.Omega.{arith}
+use Rattle.plan.specs.Tree.{Kids, last, more, Tree, sumKids, between, count, size, below, nodes, leaves, internals, inner}
+
+-- Every child has the property.
+abbrev pub AllKids : {A : Type 0} → (A → Type 0) → Kids A → Type 0
+AllKids P (last t) = P t
+AllKids P (more t ts) = P t × AllKids P ts
+
+module _ {A : Type 0} where
+  pub all-kids : (P : A → Type 0) → ((t : A) → P t) → (ts : Kids A) → AllKids P ts
+  all-kids P h (last t) = h t
+  all-kids P h (more t ts) = (h t, all-kids P h ts)
+
+  pub all-kids-map : (P Q : A → Type 0) → ((t : A) → P t → Q t) → (ts : Kids A) → AllKids P ts → AllKids Q ts
+  all-kids-map P Q h (last t) p = h t p
+  all-kids-map P Q h (more t ts) p = (h t (p .0), all-kids-map P Q h ts (p .1))
+
+  module _ (f g : A → ℕ) where
+    -- Sums over the children, compared child by child.
+    pub sumKids-le : (ts : Kids A) → AllKids (λ t. f t ≤ g t) ts → sumKids f ts ≤ sumKids g ts
+    unfolding sumKids
+    sumKids-le (last t) p = p
+    sumKids-le (more t ts) p = omega (arith, p .0, sumKids-le ts (p .1))
+
+    pub sumKids-cong : (ts : Kids A) → AllKids (λ t. f t ≡ g t) ts → sumKids f ts ≡ sumKids g ts
+    unfolding sumKids
+    sumKids-cong (last t) p = p
+    sumKids-cong (more t ts) p = omega (arith, p .0, sumKids-cong ts (p .1))
+
+    pub sumKids-add : (ts : Kids A) → sumKids (λ t. f t + g t) ts ≡ sumKids f ts + sumKids g ts
+    unfolding sumKids
+    sumKids-add (last t) = refl
+    sumKids-add (more t ts) = omega (arith, sumKids-add ts)
+
+  -- There is one child more than records between them.
+  pub sumKids-one : (ts : Kids A) → sumKids (λ t. 1) ts ≡ between ts + 1
+  unfolding sumKids between
+  sumKids-one (last t) = refl
+  sumKids-one (more t ts) = omega (arith, sumKids-one ts)
+
+  pub sumKids-more : (f : A → ℕ) (ts : Kids A) → sumKids (λ t. f t + 1) ts ≡ sumKids f ts + between ts + 1
+  sumKids-more f ts = omega (arith, sumKids-add f (λ t. 1) ts, sumKids-one ts)
+
+-- Leaves are one more than records in internal nodes.
+pub leaves-inner : (d : ℕ) (t : Tree d) → leaves d t ≡ inner d t + 1
+unfolding leaves inner
+leaves-inner zero n = refl
+leaves-inner (suc d) ts =
+    omega (arith, sumKids-cong (leaves d) (λ t. inner d t + 1) ts (all-kids _ (leaves-inner d) ts), sumKids-more (inner d) ts)
+
+-- A node is a leaf or an internal node.
+pub nodes-kinds : (d : ℕ) (t : Tree d) → nodes d t ≡ leaves d t + internals d t
+unfolding nodes below leaves internals
+nodes-kinds zero n = refl
+nodes-kinds (suc d) ts =
+    omega (arith, sumKids-cong (λ t. below d t + 1) (λ t. leaves d t + internals d t) ts (all-kids _ (nodes-kinds d) ts), sumKids-add (leaves d) (internals d) ts)
+
+-- The property holds at every node; it is told the node's level and the subtree.
+abbrev pub Everywhere : ((u : ℕ) → Tree u → Type 0) → (d : ℕ) → Tree d → Type 0
+Everywhere P zero n = P zero n
+Everywhere P (suc d) ts = P (suc d) ts × AllKids (Everywhere P d) ts
+
+pub everywhere-root : (P : (u : ℕ) → Tree u → Type 0) (d : ℕ) (t : Tree d) → Everywhere P d t → P d t
+everywhere-root P zero n e = e
+everywhere-root P (suc d) ts e = e .0
+
+pub everywhere-map : (P Q : (u : ℕ) → Tree u → Type 0) → ((u : ℕ) (t : Tree u) → P u t → Q u t)
+    → (d : ℕ) (t : Tree d) → Everywhere P d t → Everywhere Q d t
+everywhere-map P Q h zero n e = h zero n e
+everywhere-map P Q h (suc d) ts e = (h (suc d) ts (e .0), all-kids-map _ _ (everywhere-map P Q h d) ts (e .1))
+
+-- Every node of a level u holds m u records at most, and every subtree of that level c u.
+abbrev pub Within : (ℕ → ℕ) → (ℕ → ℕ) → (d : ℕ) → Tree d → Type 0
+Within m c = Everywhere (λ u t. (count u t ≤ m u) × (size u t ≤ c u))
+
+-- Every node holds a record.
+abbrev pub Filled : (d : ℕ) → Tree d → Type 0
+Filled = Everywhere (λ u t. 1 ≤ count u t)
+
+-- So there are no more nodes than records.
+pub nodes-le-size : (d : ℕ) (t : Tree d) → Filled d t → nodes d t ≤ size d t
+unfolding nodes below size count
+nodes-le-size zero n h = h
+nodes-le-size (suc d) ts h =
+    omega (arith, h .0, sumKids-le (λ t. below d t + 1) (size d) ts (all-kids-map _ _ (nodes-le-size d) ts (h .1)))
+
+pub leaves-le-nodes : (d : ℕ) (t : Tree d) → leaves d t ≤ nodes d t
+leaves-le-nodes d t = omega (arith, nodes-kinds d t)

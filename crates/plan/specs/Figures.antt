@@ -1,0 +1,55 @@
+-- The figures of document 01 that these definitions give, as one table: what is computed, beside what the document says.
+use Prim.Native.Nat.{ℕ, zero, suc, _+_}
+use mathlib.Core.List.{List, [], _∷_, _++_}
+use lib.ListN.{take}
+use Rattle.fields.specs.Numbers.{width}
+use Rattle.refusal.specs.Answer.{cells}
+use Rattle.node_info.specs.Table.{infoAt}
+use Rattle.plan.specs.Tree.{Kids, last, more, Tree, between, size}
+use Rattle.plan.specs.Planned.{planDepth, planned, planAnswer}
+
+-- The lists that f gives of the children, one after another.
+unfoldable pub joinKids : {A : Type 0} → (A → List ℕ) → Kids A → List ℕ
+joinKids f (last t) = f t
+joinKids f (more t ts) = f t ++ joinKids f ts
+
+-- Each node's own records, in the order in which nodes are numbered: children first, root last.
+unfoldable pub counts : (d : ℕ) → Tree d → List ℕ
+counts zero n = n ∷ []
+counts (suc d) ts = joinKids (counts d) ts ++ (between ts ∷ [])
+
+-- The numbers of the records between children, if the first child's records begin with record r and each has size s.
+unfoldable pub betweenFrom : {A : Type 0} → (A → ℕ) → ℕ → Kids A → List ℕ
+betweenFrom s r (last t) = []
+betweenFrom s r (more t ts) = (r + s t) ∷ betweenFrom s (r + s t + 1) ts
+
+-- The numbers of the root's own records.
+unfoldable pub rootRecords : (d : ℕ) → Tree d → List ℕ
+rootRecords zero n = []
+rootRecords (suc d) ts = betweenFrom (size d) 0 ts
+
+-- The planner's answer in five numbers: 0, depth, nodes, leaves, image size; or the refusal's number and values.
+unfoldable pub plan : (n rs ns ow : ℕ) → List ℕ
+plan n rs ns ow = cells 5 (planAnswer n rs ns ow)
+
+-- The arguments of a plan are N, RS, NS, OW, those of a table NS, RS, OW and its depth.
+unfoldable pub figures : List (List ℕ × List ℕ)
+figures =
+    (width 0 ∷ width 255 ∷ width 256 ∷ width 65535 ∷ width 65536 ∷ [], 1 ∷ 1 ∷ 2 ∷ 2 ∷ 3 ∷ [])
+    ∷ (take 4 (infoAt 512 11 8 3 .«max_nrec»), 45 ∷ 24 ∷ 22 ∷ 22 ∷ [])
+    ∷ (take 4 (infoAt 512 11 8 3 .«cum_max_nrec»), 45 ∷ 1149 ∷ 26449 ∷ 608349 ∷ [])
+    ∷ (take 3 (infoAt 40 8 8 2 .«cum_max_nrec»), 3 ∷ 7 ∷ 15 ∷ [])
+    ∷ (plan 3 8 40 8, 0 ∷ 0 ∷ 1 ∷ 1 ∷ 40 ∷ [])
+    ∷ (plan 4 8 40 8, 0 ∷ 1 ∷ 3 ∷ 2 ∷ 120 ∷ [])
+    ∷ (counts (planDepth 4 8 40 8) (planned 4 8 40 8), 2 ∷ 1 ∷ 1 ∷ [])
+    ∷ (counts (planDepth 8 8 40 8) (planned 8 8 40 8), 2 ∷ 1 ∷ 1 ∷ 1 ∷ 1 ∷ 1 ∷ 1 ∷ [])
+    ∷ (rootRecords (planDepth 8 8 40 8) (planned 8 8 40 8), 4 ∷ [])
+    ∷ (plan 2 8 26 8, 0 ∷ 0 ∷ 1 ∷ 1 ∷ 26 ∷ [])
+    ∷ (plan 3 8 26 8, 10 ∷ 1 ∷ 0 ∷ 0 ∷ 0 ∷ [])
+    ∷ (plan 1 20 48 8, 0 ∷ 0 ∷ 1 ∷ 1 ∷ 48 ∷ [])
+    ∷ (plan 2 20 48 8, 11 ∷ 0 ∷ 0 ∷ 0 ∷ 0 ∷ [])
+    ∷ (plan 3 20 48 8, 0 ∷ 1 ∷ 3 ∷ 2 ∷ 144 ∷ [])
+    ∷ (plan 4 20 48 8, 10 ∷ 2 ∷ 0 ∷ 0 ∷ 0 ∷ [])
+    ∷ (plan 0 8 10 8, 0 ∷ 0 ∷ 1 ∷ 1 ∷ 10 ∷ [])
+    ∷ (plan 0 8 9 8, 7 ∷ 9 ∷ 0 ∷ 0 ∷ 0 ∷ [])
+    ∷ []

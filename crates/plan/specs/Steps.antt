@@ -1,0 +1,41 @@
+-- What the planner's steps ask and give.
+use mathlib.Core.Path.{_≡_}
+use mathlib.Core.Bool.{false}
+use mathlib.Core.List.{List}
+use Prim.Native.Nat.{ℕ, _^_, _≤_, _<_}
+use lib.ListN.{getD}
+use Rattle.refusal.specs.Answer.{Answer}
+use Rattle.node_info.specs.Table.{infoAt}
+use Rattle.node_info.specs.declared.NodeInfo.{NodeInfo}
+use Rattle.plan.specs.Tree.{nodes, leaves}
+use Rattle.plan.specs.Planned.{planTree, thin, planDepth, planChecks, tableIf}
+
+-- The numbers have passed refusals 7 to 9.
+pub record Passed (n rs ns : ℕ) : Type 0 where
+  pub low : 10 ≤ ns
+  pub high : ns ≤ 65536
+  pub some : 0 < rs
+  pub few : n ≤ 16777215
+
+-- The answer is the plan's, and the table its own where it is accepted.
+abbrev pub Laid : (n rs ns ow : ℕ) → Answer → NodeInfo → Type 0
+Laid n rs ns ow a t =
+    (a ≡ planChecks n rs ns ow) × (t ≡ tableIf (planChecks n rs ns ow) (infoAt ns rs ow (planDepth n rs ns ow)))
+
+-- The capacity of each level's subtrees, out of the table's column.
+abbrev pub levelOf : List ℕ → ℕ → ℕ
+levelOf l u = getD l u 0
+
+-- n records at depth d can be counted: the numbers are small, and no subtree is too thin.
+pub record Countable (l : List ℕ) (d n : ℕ) : Type 0 where
+  pub deep : d < 33
+  pub few : n < 2 ^ 24
+  pub small : (u : ℕ) → u < d → levelOf l u < 2 ^ 24
+  pub thick : 0 < d → thin (levelOf l) d n ≡ false
+
+-- They have x nodes and y leaves.
+pub record Counted (l : List ℕ) (d n x y : ℕ) : Type 0 where
+  pub «nodes» : x ≡ nodes d (planTree (levelOf l) d n)
+  pub «leaves» : y ≡ leaves d (planTree (levelOf l) d n)
+  pub few-nodes : x < 2 ^ 24
+  pub few-leaves : y < 2 ^ 24

@@ -1,0 +1,204 @@
+// The planner: the shape of the tree that is written for a number of records, without walking its nodes.
+
+ghost use mathlib.Core.Path.{_≡_};
+ghost use mathlib.Core.Bool.{not, _&&_};
+ghost use Prim.Native.Nat.{ℕ, _+_, _-_, _*_, _/_, _%_, _^_, _≤_, _<_};
+ghost use lib.Dec.{ltb, eqb};
+ghost use Rattle.refusal.specs.Answer.{refusalOf};
+ghost use Rattle.node_info.specs.Table.{infoAt, noInfo};
+ghost use Rattle.plan.specs.Steps.{Passed, Laid, Countable, Counted};
+ghost use Rattle.plan.specs.Planned.{taken, planDepth, planChecks, planAnswer, planAnswerOf, tableIf};
+use node_info::NodeInfo;
+use refusal::Refusal;
+
+// The limits of refusal 7.
+const NODE_SIZE_MIN: u32 = 10;
+
+const NODE_SIZE_MAX: u32 = 65536;
+
+// The limit of refusal 9.
+const RECORDS_MAX: u64 = 16777215;
+
+// The figures of a planned tree.
+pub struct BTreeV2Plan {
+    pub depth: u16,
+    pub nodes: u64,
+    pub leaves: u64,
+    pub image_size: u64,
+}
+
+pub enum PlanAnswer {
+    Planned(BTreeV2Plan),
+    Refused(Refusal),
+}
+
+// An answer with the capacity table of the plan's depth, zeros where it is refused.
+pub struct PlanAndTable {
+    pub answer: PlanAnswer,
+    pub info: NodeInfo,
+}
+
+// What a node keeps and deals: `parts` children, of which the first `extra` get `base` + 1 records and the others `base`.
+struct Dealt {
+    parts: u64,
+    base: u64,
+    extra: u64,
+}
+
+// The nodes and leaves of a subtree.
+struct Counts {
+    nodes: u64,
+    leaves: u64,
+}
+
+// How n records are dealt where each child's subtree holds `most` at most. Two children, as in all nodes of the deepest trees, are dealt
+// to with no division by a variable.
+fn deal(most: u64, n: u64) -> Dealt
+    requires { ⌜ (most < 2 ^ 24) × (0 < n) × (n < 2 ^ 24) ⌝ }
+    ensures { λ r. ⌜ (r .parts ≡ taken most n + 1) × (r .base ≡ (n - taken most n) / (taken most n + 1)) × (r .extra ≡ (n - taken most n) % (taken most n + 1)) ⌝ }
+{
+    if n < 2 * (most + 1) {
+        let rest = n - 1;
+        return Dealt {
+            parts: 2,
+            base: rest / 2,
+            extra: rest % 2,
+        };
+    }
+    let keeps = n / (most + 1);
+    let parts = keeps + 1;
+    let rest = n - keeps;
+    Dealt {
+        parts,
+        base: rest / parts,
+        extra: rest % parts,
+    }
+}
+
+// A sum over the children, of `larger` for each of the first `extra` and `smaller` for each of the others.
+fn over_children(dealt: Dealt, larger: u64, smaller: u64) -> u64
+    requires { ⌜ (dealt .parts ≤ 2 ^ 24) × (dealt .extra < dealt .parts) × (larger < 2 ^ 24) × (smaller < 2 ^ 24) ⌝ }
+    ensures { λ r. ⌜ (r ≡ dealt .extra * larger + (dealt .parts - dealt .extra) * smaller) × (r ≤ 2 ^ 48) ⌝ }
+{
+    dealt.extra * larger + (dealt.parts - dealt.extra) * smaller
+}
+
+// The counts of a node whose children have these.
+fn gather(dealt: Dealt, larger: Counts, smaller: Counts) -> Counts
+    requires { ⌜ (dealt .parts ≤ 2 ^ 24) × (dealt .extra < dealt .parts) × (larger .nodes < 2 ^ 24) × (larger .leaves < 2 ^ 24) × (smaller .nodes < 2 ^ 24) × (smaller .leaves < 2 ^ 24) ⌝ }
+    ensures { λ r. ⌜ (r .nodes ≡ dealt .extra * larger .nodes + (dealt .parts - dealt .extra) * smaller .nodes + 1) × (r .leaves ≡ dealt .extra * larger .leaves + (dealt .parts - dealt .extra) * smaller .leaves) ⌝ }
+{
+    let under = over_children(dealt, larger.nodes, smaller.nodes);
+    let leaves = over_children(dealt, larger.leaves, smaller.leaves);
+    Counts {
+        nodes: under + 1,
+        leaves,
+    }
+}
+
+// The counts of a subtree of n records that is not too thin, where those of each level hold at most what `levels` says.
+fn count_subtree(levels: &[u64; 33], depth: usize, n: u64) -> Counts
+    requires { ⌜ Countable (now levels) depth n ⌝ }
+    ensures { λ r. ⌜ Counted (now (levels .entry)) depth n (r .nodes) (r .leaves) ⌝ }
+{
+    if depth == 0 {
+        return Counts {
+            nodes: 1,
+            leaves: 1,
+        };
+    }
+    let under = depth - 1;
+    let dealt = deal(levels[under], n);
+    let smaller = count_subtree(levels, under, dealt.base);
+    if dealt.extra == 0 {
+        return gather(dealt, smaller, smaller);
+    }
+    let larger = count_subtree(levels, under, dealt.base + 1);
+    gather(dealt, larger, smaller)
+}
+
+// Whether n records, not none, are too few for a tree of this depth.
+fn is_thin(depth: u16, n: u64) -> bool
+    requires { ⌜ depth ≤ 32 ⌝ }
+    ensures { λ r. ⌜ r ≡ (not (eqb n 0) && ltb n (2 ^ (depth + 1) - 1)) ⌝ }
+{
+    if n == 0 {
+        return false;
+    }
+    n < (1u64 << (depth + 1)) - 1
+}
+
+// A refusal, with no table.
+fn refuse(cause: Refusal) -> PlanAndTable
+    ensures { λ r. ⌜ (planAnswerOf (r .answer) ≡ refusalOf cause) × (r .info ≡ noInfo) ⌝ }
+{
+    PlanAndTable {
+        answer: PlanAnswer::Refused(cause),
+        info: NodeInfo::none(),
+    }
+}
+
+// The plan and its table, for numbers that have passed refusals 7 to 9. Whether a subtree is too thin is decided at the root.
+fn lay_out_passed(
+    record_count: u64,
+    record_size: u16,
+    node_size: u32,
+    offset_size: u8,
+) -> PlanAndTable
+    requires { ⌜ Passed «record_count» «record_size» «node_size» ⌝ }
+    ensures { λ r. ⌜ Laid «record_count» «record_size» «node_size» «offset_size» (planAnswerOf (r .answer)) (r .info) ⌝ }
+{
+    let deepened = NodeInfo::for_record_count(node_size, record_size, offset_size, record_count);
+    let depth = deepened.depth;
+    if !deepened.enough {
+        return refuse(Refusal::LevelHoldsNone(depth));
+    }
+    if is_thin(depth, record_count) {
+        return refuse(Refusal::SubtreeTooThin);
+    }
+    let info = deepened.info;
+    let counts = count_subtree(&info.cum_max_nrec, depth as usize, record_count);
+    let plan = BTreeV2Plan {
+        depth,
+        nodes: counts.nodes,
+        leaves: counts.leaves,
+        image_size: counts.nodes * (node_size as u64),
+    };
+    PlanAndTable {
+        answer: PlanAnswer::Planned(plan),
+        info,
+    }
+}
+
+// The plan and its table, where the offset size has been tested: refusals 7 to 11.
+pub fn lay_out(record_count: u64, record_size: u16, node_size: u32, offset_size: u8) -> PlanAndTable
+    ensures { λ r. ⌜ (planAnswerOf (r .answer) ≡ planChecks «record_count» «record_size» «node_size» «offset_size») × (r .info ≡ tableIf (planChecks «record_count» «record_size» «node_size» «offset_size») (infoAt «node_size» «record_size» «offset_size» (planDepth «record_count» «record_size» «node_size» «offset_size»))) ⌝ }
+{
+    if node_size < NODE_SIZE_MIN {
+        return refuse(Refusal::InvalidNodeSize(node_size));
+    }
+    if NODE_SIZE_MAX < node_size {
+        return refuse(Refusal::InvalidNodeSize(node_size));
+    }
+    if record_size == 0 {
+        return refuse(Refusal::ZeroRecordSize);
+    }
+    if RECORDS_MAX < record_count {
+        return refuse(Refusal::TooManyRecords(record_count));
+    }
+    lay_out_passed(record_count, record_size, node_size, offset_size)
+}
+
+impl BTreeV2Plan {
+    // The planned tree for records of a size in nodes of a size, or the first refusal.
+    pub fn new(record_count: u64, record_size: u16, node_size: u32, offset_size: u8) -> PlanAnswer
+        ensures { λ r. ⌜ planAnswerOf r ≡ planAnswer «record_count» «record_size» «node_size» «offset_size» ⌝ }
+    {
+        if fields::is_field_size(offset_size) {
+            let laid = lay_out(record_count, record_size, node_size, offset_size);
+            laid.answer
+        } else {
+            PlanAnswer::Refused(Refusal::InvalidOffsetSize(offset_size))
+        }
+    }
+}
