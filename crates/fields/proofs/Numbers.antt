@@ -154,7 +154,7 @@ pub width-zero : (x : ℕ) → x ≡ 0 → 1 ≡ width x
 unfolding width leastFrom
 width-zero x e = rw e
 
-pow-256 : (k : ℕ) → 256 ^ k ≡ 2 ^ (8 * k)
+pub pow-256 : (k : ℕ) → 256 ^ k ≡ 2 ^ (8 * k)
 pow-256 zero = refl
 pow-256 (suc k) = rw (pow-suc, pow-256 k, mul-suc 8 k, pow-add)
 

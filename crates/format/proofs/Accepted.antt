@@ -2,14 +2,14 @@
 use mathlib.Core.Path.{_≡_, refl}
 use mathlib.Core.Bool.{Bool, true, false}
 use mathlib.Core.List.{List, []}
-use Prim.Native.Nat.{ℕ, zero, suc, _+_, _-_, _*_, _^_, _≤_, _<_}
-use native.Mathlib.Nat.{mul-suc, pow-suc, one-le-pow}
+use Prim.Native.Nat.{ℕ, _+_, _-_, _*_, _^_, _≤_, _<_}
+use native.Mathlib.Nat.{one-le-pow}
 use native.Mathlib.Omega.{arith}
 use lib.Dec.{leb, eqb, lit<}
 use lib.ListN.{length}
-use lib.Pow.{pow-add}
 use borrow.Author.Tests.{leb-true, eqb-true}
 use Rattle.fields.specs.Numbers.{fieldSize}
+use Rattle.fields.proofs.Numbers.{pow-256}
 use Rattle.refusal.specs.Answer.{Answer, accepted, refused, orElse}
 use Rattle.plan.specs.Tree.{nodes}
 use Rattle.plan.specs.Planned.{planChecks}
@@ -37,30 +37,41 @@ go-on : (p : Answer) (rest : Answer) (figures : List ℕ) → onAccepted p rest 
 go-on (accepted f) rest figures e = ((f, refl), e)
 go-on (refused number values) rest figures e = (([], cc), cc)
 
-pub accepts : (q : Request) (recs hdr img figures : List ℕ) → written q recs hdr img ≡ accepted figures → Accepts q recs
+-- And the two outputs are long enough.
+pub record Roomy (q : Request) (hdr img : List ℕ) : Type 0 where
+  pub header : 22 + q .ow + q .lw ≤ length hdr
+  pub image : nodesOf q * q .ns ≤ length img
+
+passes : (q : Request) (recs hdr img figures : List ℕ) → written q recs hdr img ≡ accepted figures → Accepts q recs × Roomy q hdr img
 unfolding written writeAnswer
-accepts q recs hdr img figures e =
+passes q recs hdr img figures e =
     let a = held-test (fieldSize (q .ow)) _ _ _ _ e in
     let b = held-test (fieldSize (q .lw)) _ _ _ _ (a .1) in
     let p = go-on (planChecks (q .n) (q .rs) (q .ns) (q .ow)) _ _ (b .1) in
     let r = held-test (eqb (length recs) (q .n * q .rs)) _ _ _ _ (p .1) in
     let c = held-test (leb (q .n) (2 ^ (8 * q .lw) - 1)) _ _ _ _ (r .1) in
     let x = held-test (leb (q .start + nodesOf q * q .ns) (2 ^ (8 * q .ow) - 1)) _ _ _ _ (c .1) in
-    record {
-      figures = p .0 .0;
-      offset = a .0;
-      lengths = b .0;
-      plan = p .0 .1;
-      records = eqb-true _ _ (r .0);
-      count = leb-true _ _ (c .0);
-      end = leb-true _ _ (x .0);
-    }
+    let h = held-test (leb (22 + q .ow + q .lw) (length hdr)) _ _ _ _ (x .1) in
+    let i = held-test (leb (nodesOf q * q .ns) (length img)) _ _ _ _ (h .1) in (
+      record {
+        figures = p .0 .0;
+        offset = a .0;
+        lengths = b .0;
+        plan = p .0 .1;
+        records = eqb-true _ _ (r .0);
+        count = leb-true _ _ (c .0);
+        end = leb-true _ _ (x .0);
+      },
+      record { header = leb-true _ _ (h .0); image = leb-true _ _ (i .0) },
+    )
 
--- A number up to 2^(8 w) - 1 fits w bytes. (`pow-256` stands in fields/proofs/Numbers, not public there.)
-pow-256 : (w : ℕ) → 256 ^ w ≡ 2 ^ (8 * w)
-pow-256 zero = refl
-pow-256 (suc w) = rw (pow-suc, pow-256 w, mul-suc 8 w, pow-add)
+pub accepts : (q : Request) (recs hdr img figures : List ℕ) → written q recs hdr img ≡ accepted figures → Accepts q recs
+accepts q recs hdr img figures e = passes q recs hdr img figures e .0
 
+pub roomy : (q : Request) (recs hdr img figures : List ℕ) → written q recs hdr img ≡ accepted figures → Roomy q hdr img
+roomy q recs hdr img figures e = passes q recs hdr img figures e .1
+
+-- A number up to 2^(8 w) - 1 fits w bytes.
 fits-field : (w x : ℕ) → x ≤ 2 ^ (8 * w) - 1 → x < 256 ^ w
 fits-field w x h = rw pow-256 (omega (arith, one-le-pow (8 * w) 2 (lit< tt)))
 

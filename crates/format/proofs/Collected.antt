@@ -87,7 +87,7 @@ module _ (q : Request) where
 
   -- An accepted write of one record or more.
   module _ (recs : List ℕ) (a : Accepts q recs) (some : 1 ≤ q .n) where
-    plan : Plannable (q .n) (q .rs) (q .ns) (q .ow)
+    pub plan : Plannable (q .n) (q .rs) (q .ns) (q .ow)
     plan = accepted-plannable (q .n) (q .rs) (q .ns) (q .ow) (a .figures) (a .plan) .0
 
     sized : size (depthOf q) tree ≡ q .n
@@ -103,7 +103,7 @@ module _ (q : Request) where
     within =
         plan-within whole most (depthOf q) (q .n) (depth-levels (q .n) (q .rs) (q .ns) (q .ow) (positive plan) (plan .enough)) (plan .thick some) (plan .enough)
 
-    fits : Everywhere (Fit (formOf q)) (depthOf q) tree
+    pub fits : Everywhere (Fit (formOf q)) (depthOf q) tree
     fits = everywhere-both (Held plan) (λ u t. 1 ≤ count u t) (Fit (formOf q)) (fit plan) (depthOf q) tree within filled
 
     pub root-some : 1 ≤ rootRecordsOf q
@@ -114,7 +114,7 @@ module _ (q : Request) where
     unfolding rootRecordsOf
     root-held = le-trans (everywhere-root (Held plan) (depthOf q) tree within .0) (node-le-leaf (q .ns) (q .rs) (q .ow) (positive plan) (depthOf q))
 
-    deep : depthOf q ≤ 32
+    pub deep : depthOf q ≤ 32
     unfolding planDepth
     deep = depth-le (q .ns) (q .rs) (q .ow) (q .n)
 

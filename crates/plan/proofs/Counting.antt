@@ -3,7 +3,7 @@ use mathlib.Core.Path.{_≡_, refl, sym, _∙_}
 use mathlib.Core.Bool.{false}
 use mathlib.Core.List.{List}
 use Prim.Native.Nat.{ℕ, suc, _+_, _-_, _*_, _/_, _%_, _^_, _≤_, _<_, max}
-use native.Mathlib.Nat.{one-mul, mul-le-mul-left, one-le-pow, zero-mul, div-le-self}
+use native.Mathlib.Nat.{one-mul, mul-le-mul-left, one-le-pow, zero-mul, zero-div, zero-mod, div-le-self}
 use native.Mathlib.Omega.{arith}
 use lib.Dec.{ltb, lit<}
 use lib.ListN.{getD}
@@ -28,14 +28,30 @@ power-pos d h = rw (power d h) (one-le-pow (d + 1) 2 (lit< tt))
 pub thin-test : (d n : ℕ) → d ≤ 32 → ltb n (1 * 2 ^ (d + 1) % 2 ^ 64 - 1) ≡ ltb n (2 ^ (d + 1) - 1)
 thin-test d n h = rw (power d h)
 
--- What a node keeps and deals: one record to two children, or more.
-pub deal-one : (most n : ℕ) → n < 2 * (most + 1)
-    → (2 ≡ taken most n + 1) × ((n - 1) / 2 ≡ share most n) × ((n - 1) % 2 ≡ extra most n)
-deal-one most n h = rw (taken-one most n h) (refl, refl, refl)
+-- What a node keeps and deals.
+abbrev Dealing : ℕ → ℕ → ℕ → ℕ → ℕ → Type 0
+Dealing most n kept base rest = (kept ≡ taken most n) × (base ≡ share most n) × (rest ≡ extra most n)
 
-pub deal-more : (most n : ℕ) → 2 * (most + 1) ≤ n
-    → (n / (most + 1) + 1 ≡ taken most n + 1) × ((n - n / (most + 1)) / (n / (most + 1) + 1) ≡ share most n) × ((n - n / (most + 1)) % (n / (most + 1) + 1) ≡ extra most n)
-deal-more most n h = rw (taken-quotient most n h) (refl, refl, refl)
+pub deal-none : (most n : ℕ) → n ≡ 0 → Dealing most n 1 0 0
+deal-none most n e =
+    let one : taken most n ≡ 1 = taken-one most n (omega arith) in
+    rw (one, e) (refl, refl, refl)
+
+pub deal-one : (most n : ℕ) → n / 2 ≤ most → Dealing most n 1 ((n - 1) / 2) ((n - 1) % 2)
+deal-one most n h = rw (taken-one most n (omega arith)) (refl, refl, refl)
+
+module _ (most n : ℕ) (h : most < n / 2) where
+  many : taken most n ≡ n / (most + 1)
+  many = taken-quotient most n (omega arith)
+
+  pub deal-all : n - n / (most + 1) ≡ 0 → Dealing most n (n / (most + 1)) 0 0
+  deal-all e = rw (many, e, zero-div, zero-mod) (refl, refl, refl)
+
+  pub deal-more : Dealing most n (n / (most + 1)) ((n - n / (most + 1)) / (n / (most + 1) + 1)) ((n - n / (most + 1)) % (n / (most + 1) + 1))
+  deal-more = rw many (refl, refl, refl)
+
+pub split-fits : (most n kept : ℕ) → kept ≡ taken most n → 0 < n → n < 2 ^ 24 → Fits w64 (kept + 1)
+split-fits most n kept e h l = omega (arith, taken-le most n h)
 
 -- Sums over the children fit.
 module _ (p x l s : ℕ) (hp : p ≤ 2 ^ 24) (hx : x < p) (hl : l < 2 ^ 24) (hs : s < 2 ^ 24) where
@@ -118,8 +134,8 @@ module _ (l : List ℕ) (d n : ℕ) (h : Countable l d n) (ne : d ≡ 0 → ⊥)
   at : Countable l (suc (d - 1)) n
   at = rw up at h
 
-  pub deal-asks : (getD l (d - 1) 0 < 2 ^ 24) × (0 < n) × (n < 2 ^ 24)
-  deal-asks = (h .small (d - 1) (omega arith), some l (d - 1) n at, h .few)
+  pub split-asks : (0 < n) × (n < 2 ^ 24)
+  split-asks = (some l (d - 1) n at, h .few)
 
   module _ (p s x : ℕ)
       (hp : p ≡ taken (getD l (d - 1) 0) n + 1) (hs : s ≡ share (getD l (d - 1) 0) n) (hx : x ≡ extra (getD l (d - 1) 0) n) where

@@ -38,11 +38,66 @@ pub struct PlanAndTable {
     pub info: NodeInfo,
 }
 
-// What a node keeps and deals: `parts` children, of which the first `extra` get `base` + 1 records and the others `base`.
-struct Dealt {
+// How a node's records are dealt: it keeps `kept`, and of its `kept` + 1 children the first `extra` get `base` + 1 and the others `base`.
+pub struct Dealt {
+    pub kept: u64,
+    pub base: u64,
+    pub extra: u64,
+}
+
+// How n records are dealt where each child's subtree holds `most` at most. Two children are what most nodes of a deep tree have.
+pub fn deal(most: u64, n: u64) -> Dealt
+    ensures { λ r. ⌜ (r .kept ≡ taken most n) × (r .base ≡ (n - taken most n) / (taken most n + 1)) × (r .extra ≡ (n - taken most n) % (taken most n + 1)) ⌝ }
+{
+    if n == 0 {
+        return Dealt {
+            kept: 1,
+            base: 0,
+            extra: 0,
+        };
+    }
+    if n / 2 <= most {
+        let rest = n - 1;
+        return Dealt {
+            kept: 1,
+            base: rest / 2,
+            extra: rest % 2,
+        };
+    }
+    let kept = n / (most + 1);
+    let rest = n - kept;
+    if rest == 0 {
+        return Dealt {
+            kept,
+            base: 0,
+            extra: 0,
+        };
+    }
+    let parts = kept + 1;
+    Dealt {
+        kept,
+        base: rest / parts,
+        extra: rest % parts,
+    }
+}
+
+// The same by the number of children.
+struct Shares {
     parts: u64,
     base: u64,
     extra: u64,
+}
+
+fn split(most: u64, n: u64) -> Shares
+    requires { ⌜ (0 < n) × (n < 2 ^ 24) ⌝ }
+    ensures { λ r. ⌜ (r .parts ≡ taken most n + 1) × (r .base ≡ (n - taken most n) / (taken most n + 1)) × (r .extra ≡ (n - taken most n) % (taken most n + 1)) ⌝ }
+{
+    let dealt = deal(most, n);
+    Shares {
+        parts: dealt.kept + 1,
+        base: dealt.base,
+        extra: dealt.extra,
+    }
 }
 
 // The nodes and leaves of a subtree.
@@ -51,32 +106,8 @@ struct Counts {
     leaves: u64,
 }
 
-// How n records are dealt where each child's subtree holds `most` at most. Two children, as in all nodes of the deepest trees, are dealt
-// to with no division by a variable.
-fn deal(most: u64, n: u64) -> Dealt
-    requires { ⌜ (most < 2 ^ 24) × (0 < n) × (n < 2 ^ 24) ⌝ }
-    ensures { λ r. ⌜ (r .parts ≡ taken most n + 1) × (r .base ≡ (n - taken most n) / (taken most n + 1)) × (r .extra ≡ (n - taken most n) % (taken most n + 1)) ⌝ }
-{
-    if n < 2 * (most + 1) {
-        let rest = n - 1;
-        return Dealt {
-            parts: 2,
-            base: rest / 2,
-            extra: rest % 2,
-        };
-    }
-    let keeps = n / (most + 1);
-    let parts = keeps + 1;
-    let rest = n - keeps;
-    Dealt {
-        parts,
-        base: rest / parts,
-        extra: rest % parts,
-    }
-}
-
 // A sum over the children, of `larger` for each of the first `extra` and `smaller` for each of the others.
-fn over_children(dealt: Dealt, larger: u64, smaller: u64) -> u64
+fn over_children(dealt: Shares, larger: u64, smaller: u64) -> u64
     requires { ⌜ (dealt .parts ≤ 2 ^ 24) × (dealt .extra < dealt .parts) × (larger < 2 ^ 24) × (smaller < 2 ^ 24) ⌝ }
     ensures { λ r. ⌜ (r ≡ dealt .extra * larger + (dealt .parts - dealt .extra) * smaller) × (r ≤ 2 ^ 48) ⌝ }
 {
@@ -84,7 +115,7 @@ fn over_children(dealt: Dealt, larger: u64, smaller: u64) -> u64
 }
 
 // The counts of a node whose children have these.
-fn gather(dealt: Dealt, larger: Counts, smaller: Counts) -> Counts
+fn gather(dealt: Shares, larger: Counts, smaller: Counts) -> Counts
     requires { ⌜ (dealt .parts ≤ 2 ^ 24) × (dealt .extra < dealt .parts) × (larger .nodes < 2 ^ 24) × (larger .leaves < 2 ^ 24) × (smaller .nodes < 2 ^ 24) × (smaller .leaves < 2 ^ 24) ⌝ }
     ensures { λ r. ⌜ (r .nodes ≡ dealt .extra * larger .nodes + (dealt .parts - dealt .extra) * smaller .nodes + 1) × (r .leaves ≡ dealt .extra * larger .leaves + (dealt .parts - dealt .extra) * smaller .leaves) ⌝ }
 {
@@ -108,7 +139,7 @@ fn count_subtree(levels: &[u64; 33], depth: usize, n: u64) -> Counts
         };
     }
     let under = depth - 1;
-    let dealt = deal(levels[under], n);
+    let dealt = split(levels[under], n);
     let smaller = count_subtree(levels, under, dealt.base);
     if dealt.extra == 0 {
         return gather(dealt, smaller, smaller);

@@ -1,5 +1,5 @@
 -- Laws of an answer as numbers. (`cc` knows that `accepted` and `refused` differ and give back what they hold.)
-use mathlib.Core.Path.{_≡_}
+use mathlib.Core.Path.{_≡_, refl}
 use mathlib.Core.List.{List, [], _∷_, _++_, append-assoc}
 use Prim.Native.Nat.{ℕ, suc, _+_, _-_, _≤_}
 use native.Mathlib.Nat.{add-comm}
@@ -38,23 +38,27 @@ more : (m number : ℕ) (values : List ℕ) → length values ≤ 2
 more m number values h =
     rw (cells-refused (m + 3) number values (2 - length values + m) (omega arith), cells-refused 3 number values (2 - length values) (omega arith), append-assoc, replicate-append-replicate)
 
+-- A cause is always a refusal, and has two values at most.
+pub refused-is : (r : Refusal) → (n : ℕ) × (v : List ℕ) × (refusalOf r ≡ refused n v) × (length v ≤ 2)
+refused-is (UnexpectedEof expected available) = (_, _, refl, lit≤ tt)
+refused-is InvalidBTreeV2Signature = (_, _, refl, lit≤ tt)
+refused-is (InvalidBTreeV2Version version) = (_, _, refl, lit≤ tt)
+refused-is (InvalidOffsetSize size) = (_, _, refl, lit≤ tt)
+refused-is (InvalidLengthSize size) = (_, _, refl, lit≤ tt)
+refused-is (ChecksumMismatch expected computed) = (_, _, refl, lit≤ tt)
+refused-is (InvalidNodeSize size) = (_, _, refl, lit≤ tt)
+refused-is ZeroRecordSize = (_, _, refl, lit≤ tt)
+refused-is (TooManyRecords records) = (_, _, refl, lit≤ tt)
+refused-is (LevelHoldsNone level) = (_, _, refl, lit≤ tt)
+refused-is SubtreeTooThin = (_, _, refl, lit≤ tt)
+refused-is (RecordBufferLength size) = (_, _, refl, lit≤ tt)
+refused-is (CountAboveLengthSize records) = (_, _, refl, lit≤ tt)
+refused-is (AddressAboveOffsetSize start) = (_, _, refl, lit≤ tt)
+refused-is (OutputTooShort size) = (_, _, refl, lit≤ tt)
+refused-is (DepthAboveLimit depth) = (_, _, refl, lit≤ tt)
+
 pub cells-more : (r : Refusal) (m : ℕ) → cells (m + 3) (refusalOf r) ≡ cells 3 (refusalOf r) ++ replicate m 0
-cells-more (UnexpectedEof expected available) m = more m _ _ (lit≤ tt)
-cells-more InvalidBTreeV2Signature m = more m _ _ (lit≤ tt)
-cells-more (InvalidBTreeV2Version version) m = more m _ _ (lit≤ tt)
-cells-more (InvalidOffsetSize size) m = more m _ _ (lit≤ tt)
-cells-more (InvalidLengthSize size) m = more m _ _ (lit≤ tt)
-cells-more (ChecksumMismatch expected computed) m = more m _ _ (lit≤ tt)
-cells-more (InvalidNodeSize size) m = more m _ _ (lit≤ tt)
-cells-more ZeroRecordSize m = more m _ _ (lit≤ tt)
-cells-more (TooManyRecords count) m = more m _ _ (lit≤ tt)
-cells-more (LevelHoldsNone level) m = more m _ _ (lit≤ tt)
-cells-more SubtreeTooThin m = more m _ _ (lit≤ tt)
-cells-more (RecordBufferLength length) m = more m _ _ (lit≤ tt)
-cells-more (CountAboveLengthSize count) m = more m _ _ (lit≤ tt)
-cells-more (AddressAboveOffsetSize start) m = more m _ _ (lit≤ tt)
-cells-more (OutputTooShort length) m = more m _ _ (lit≤ tt)
-cells-more (DepthAboveLimit depth) m = more m _ _ (lit≤ tt)
+cells-more r m = let s = refused-is r in rw (s .2) (more m (s .0) (s .1) (s .3))
 
 -- What `of_two` gives in an arm is the cause's number and values.
 pub told-is : {s t : Refusal} {n x y a b c : ℕ} → s ≡ t → (a ≡ n) × (b ≡ x) × (c ≡ y) → n ∷ x ∷ y ∷ [] ≡ cells 3 (refusalOf t)

@@ -4,11 +4,11 @@ use native.Mathlib.Omega.{arith}
 use borrow.Author.Needs.{needs}
 use borrow.Fn.Kinds.{In}
 use borrow.Fn.PlainCycle.{Measures, is, falls, and}
-use Rattle.plan.proofs.Counting.{count-leaf, deal-asks, less-asks, more-asks, more-fits, parts-few, extra-less, count-one, count-two}
+use Rattle.plan.proofs.Counting.{count-leaf, split-asks, less-asks, more-asks, more-fits, parts-few, extra-less, count-one, count-two}
 use Rattle.plan.proofs.count_subtree.Reads as count-subtree
 use Rattle.plan.proofs.count_subtree.Kinds as count-subtree-kinds
 use Rattle.plan.proofs.+count_subtree.Lts-count_subtree as count-subtree-lts
-use Rattle.plan.proofs.deal.Reads as deal-reads
+use Rattle.plan.proofs.split.Reads as split-reads
 use Rattle.plan.proofs.gather.Reads as gather-reads
 use Rattle.plan.proofs.+count_subtree.{statement}
 use Rattle.plan.proofs.+count_subtree.Tie.{close}
@@ -27,18 +27,18 @@ pub +count-subtree-spec : {M : Type 1} → statement M
     close
     μ-count-subtree
     (λ t. count-subtree-lts.spec
-    (deal-reads.Asked, deal-reads.Learnt, count-subtree-below t, count-subtree.Post, gather-reads.Asked, gather-reads.Learnt)
+    (split-reads.Asked, split-reads.Learnt, count-subtree-below t, count-subtree.Post, gather-reads.Asked, gather-reads.Learnt)
     (count-subtree-at t)
     count-subtree.Post
     (λ c. count-leaf _ _ _ (c .if1 .taken))
     (λ c. search needs)
     (λ c. search needs)
     (λ c. search needs)
-    (λ c κs. deal-asks _ _ _ (c .before .before .pre .1) (c .before .if1 .left))
+    (λ c κs. split-asks _ _ _ (c .before .before .pre .1) (c .before .if1 .left))
     (λ c κs. search (less-asks, c .before .before .if1 .left, arith))
     (λ c κs. search (parts-few, extra-less, c .before .before .before .before .before .if1 .left))
-    (λ c. let node = c .before .before .before .before in count-one _ _ _ (node .before .before .before .pre .1) (node .before .before .if1 .left) _ _ _ (node .deal .ensures .0) (node .deal .ensures .1) (node .deal .ensures .2) _ _ _ _ (c .before .before .before .count-subtree .ensures) (c .before .if2 .taken) (c .gather .ensures .0) (c .gather .ensures .1))
+    (λ c. let node = c .before .before .before .before in count-one _ _ _ (node .before .before .before .pre .1) (node .before .before .if1 .left) _ _ _ (node .split .ensures .0) (node .split .ensures .1) (node .split .ensures .2) _ _ _ _ (c .before .before .before .count-subtree .ensures) (c .before .if2 .taken) (c .gather .ensures .0) (c .gather .ensures .1))
     (λ c. search (more-fits, c .before .before .before .before .before .before .if1 .left))
     (λ c κs. search (more-asks, c .before .if2 .left, c .before .before .before .before .before .before .if1 .left, arith))
     (λ c κs. search (parts-few, extra-less, c .before .before .before .before .before .before .before .if1 .left))
-    (λ c. let node = c .before .before .before .before .before .before in count-two _ _ _ (node .before .before .before .pre .1) (node .before .before .if1 .left) _ _ _ (node .deal .ensures .0) (node .deal .ensures .1) (node .deal .ensures .2) _ _ _ _ (c .before .before .before .before .before .count-subtree .ensures) _ _ (c .before .count-subtree2 .ensures) (c .gather2 .ensures .0) (c .gather2 .ensures .1)))
+    (λ c. let node = c .before .before .before .before .before .before in count-two _ _ _ (node .before .before .before .pre .1) (node .before .before .if1 .left) _ _ _ (node .split .ensures .0) (node .split .ensures .1) (node .split .ensures .2) _ _ _ _ (c .before .before .before .before .before .count-subtree .ensures) _ _ (c .before .count-subtree2 .ensures) (c .gather2 .ensures .0) (c .gather2 .ensures .1)))

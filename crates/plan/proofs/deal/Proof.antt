@@ -1,9 +1,7 @@
--- `deal` keeps what a node keeps, and deals the rest.
-use Rattle.plan.proofs.Counting.{deal-one, deal-more}
+-- By the ways out.
+use Rattle.plan.proofs.Counting.{deal-none, deal-one, deal-all, deal-more}
 use native.Mathlib.Nat.{div-le-self}
-use Prim.Native.Nat.{_+_}
 use borrow.Author.Needs.{needs}
-use native.Mathlib.Omega.{arith}
 use Rattle.plan.proofs.deal.Statement.{statement}
 use Rattle.plan.proofs.deal.Tie as tie
 
@@ -11,14 +9,14 @@ pub deal-spec : {M : Type 1} → statement M
 deal-spec =
     tie.close
     (tie.spec
+    (λ c. deal-none _ _ (c .if1 .taken))
+    (λ c. search needs)
+    (λ c. deal-one _ _ (c .if2 .taken))
     (λ c. search needs)
     (λ c. search needs)
-    (λ c. search needs)
-    (λ c. deal-one _ _ (c .if1 .taken))
-    (λ c. search needs)
-    (λ c. search needs)
-    (λ c. omega (arith, div-le-self (c .before .args .n) (c .before .args .most + 1)))
     (λ c. div-le-self _ _)
+    (λ c. deal-all _ _ (c .before .if2 .left) (c .if3 .taken))
     (λ c. search needs)
     (λ c. search needs)
-    (λ c. deal-more _ _ (c .if1 .left)))
+    (λ c. search needs)
+    (λ c. deal-more _ _ (c .before .if2 .left)))
