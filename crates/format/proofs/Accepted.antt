@@ -42,7 +42,8 @@ pub record Roomy (q : Request) (hdr img : List ℕ) : Type 0 where
   pub header : 22 + q .ow + q .lw ≤ length hdr
   pub image : nodesOf q * q .ns ≤ length img
 
-passes : (q : Request) (recs hdr img figures : List ℕ) → written q recs hdr img ≡ accepted figures → Accepts q recs × Roomy q hdr img
+passes : (q : Request) (recs hdr img figures : List ℕ) → written q recs hdr img ≡ accepted figures
+    → Accepts q recs × Roomy q hdr img × (planChecks (q .n) (q .rs) (q .ns) (q .ow) ≡ accepted figures)
 unfolding written writeAnswer
 passes q recs hdr img figures e =
     let a = held-test (fieldSize (q .ow)) _ _ _ _ e in
@@ -63,6 +64,7 @@ passes q recs hdr img figures e =
         end = leb-true _ _ (x .0);
       },
       record { header = leb-true _ _ (h .0); image = leb-true _ _ (i .0) },
+      i .1,
     )
 
 pub accepts : (q : Request) (recs hdr img figures : List ℕ) → written q recs hdr img ≡ accepted figures → Accepts q recs
@@ -70,6 +72,11 @@ accepts q recs hdr img figures e = passes q recs hdr img figures e .0
 
 pub roomy : (q : Request) (recs hdr img figures : List ℕ) → written q recs hdr img ≡ accepted figures → Roomy q hdr img
 roomy q recs hdr img figures e = passes q recs hdr img figures e .1
+
+-- Its figures are the plan's.
+pub plan-accepted : (q : Request) (recs hdr img figures : List ℕ) → written q recs hdr img ≡ accepted figures
+    → planChecks (q .n) (q .rs) (q .ns) (q .ow) ≡ accepted figures
+plan-accepted q recs hdr img figures e = passes q recs hdr img figures e .2
 
 -- A number up to 2^(8 w) - 1 fits w bytes.
 fits-field : (w x : ℕ) → x ≤ 2 ^ (8 * w) - 1 → x < 256 ^ w

@@ -1,0 +1,303 @@
+-- Filling an internal node: its own records and its pointers, child by child. A loop's invariant says that what is left to store, stored at the
+-- place reached, gives the whole.
+use mathlib.Core.Path.{_≡_, refl, sym, _∙_, ap}
+use mathlib.Core.Logic.{⊎-elim}
+use mathlib.Core.Bool.{Bool, true, false}
+use mathlib.Core.List.{List, [], _∷_, _++_, append-assoc, append-nil}
+use Prim.Native.Nat.{ℕ, zero, suc, _+_, _-_, _*_, _^_, _≤_, _<_}
+use native.Mathlib.Nat.{add-zero, zero-add, zero-mul, add-mul, one-mul, suc-mul, sub-zero, add-assoc, mul-le-mul-right, le-trans, le-mul-of-pos-right}
+use native.Mathlib.Numerals.{add-one}
+use native.Mathlib.Omega.{arith}
+use borrow.Author.Needs.{zero≤}
+use borrow.Author.Tests.{lt-ltb, le-ltb}
+use mir.Val.{Fits}
+use mir.Syntax.{w64}
+use lib.Dec.{ltb}
+use lib.ListN.{length, take, drop, replicate, length-append}
+use Rattle.fields.specs.Numbers.{pick, le, part}
+use Rattle.fields.specs.Places.{stored}
+use Rattle.fields.proofs.Lists.{stored-nil, stored-append, length-stored, length-part}
+use Rattle.fields.proofs.Numbers.{le-length, lt-or-le}
+use Rattle.btree_v2_write.specs.declared.Layout.{Layout}
+use Rattle.checksum.specs.Lookup3.{lookup3}
+use Rattle.format.specs.Bytes.{padded}
+use Rattle.btree_v2_write.specs.declared.Child.{Child}
+use Rattle.btree_v2_write.specs.declared.Inner.{Inner}
+use Rattle.btree_v2_write.specs.Shares.{twoSizes, withOne, rowsAfter, pointerSize, pointerTo, pointersTo, nodesOfAll, InnerFits, innerShares, innerChildren, innerBytes}
+use Rattle.btree_v2_write.proofs.Nodes.{after-front, node-sealed}
+
+pub pick-lt : {A : Type 0} (i e : ℕ) (x y : A) → i < e → x ≡ pick (ltb i e) x y
+pick-lt i e x y h = rw (lt-ltb i e h)
+
+pub pick-le : {A : Type 0} (i e : ℕ) (x y : A) → e ≤ i → y ≡ pick (ltb i e) x y
+pick-le i e x y h = rw (le-ltb i e h)
+
+-- The children from child i on: child i and those after it.
+module _ {A : Type 0} (k e : ℕ) (large small : A) where
+  abbrev pub from : ℕ → List A
+  from i = twoSizes (k - i) (e - i) large small
+
+  pub from-0 : from 0 ≡ twoSizes k e large small
+  from-0 = rw (sub-zero, sub-zero)
+
+  pub from-step : (i : ℕ) → i < k → from i ≡ pick (ltb i e) large small ∷ from (i + 1)
+  unfolding twoSizes
+  from-step i h =
+      let some : k - i ≡ suc (k - (i + 1)) = omega arith in
+      ⊎-elim
+      (λ (l : i < e). let more : e - i ≡ suc (e - (i + 1)) = omega arith in rw (some, more, lt-ltb i e l))
+      (λ (l : e ≤ i). let none : e - i ≡ 0 = omega arith in let none′ : e - (i + 1) ≡ 0 = omega arith in rw (some, none, none′, le-ltb i e l))
+      (lt-or-le i e)
+
+  pub from-end : (i : ℕ) → k ≤ i → from i ≡ []
+  unfolding twoSizes
+  from-end i h = let none : k - i ≡ 0 = omega arith in rw none
+
+pub from-first : {A : Type 0} (k e : ℕ) (large small : A)
+    → twoSizes (k + 1) e large small ≡ pick (ltb 0 e) large small ∷ from (k + 1) e large small 1
+from-first k e large small = sym (from-0 (k + 1) e large small) ∙ from-step (k + 1) e large small 0 (omega arith)
+
+-- One field more of what is left.
+pub stored-turn : (o : List ℕ) (p q : ℕ) (x rest : List ℕ) → p ≤ length o → q ≡ p + length x
+    → stored (stored o p x) q rest ≡ stored o p (x ++ rest)
+stored-turn o p q x rest h e = rw e (stored-append o p x h rest)
+
+-- `put_own_rows`
+module _ (o recs : List ℕ) (rs kept base extra r : ℕ) where
+  abbrev rowsFrom : ℕ → List ℕ
+  rowsFrom i = from kept extra (base + 1) base i
+
+  -- Before child i: the place, the record reached, and what is left.
+  pub record RowsLeft (d : List ℕ) (at row i : ℕ) : Type 0 where
+    pub within : i ≤ kept
+    pub place : at ≡ 6 + i * rs
+    pub reached : row + withOne (rowsFrom i) ≡ r + withOne (twoSizes kept extra (base + 1) base)
+    pub long : length d ≡ length o
+    pub left : stored d at (rowsAfter rs recs (rowsFrom i) row) ≡ stored o 6 (rowsAfter rs recs (twoSizes kept extra (base + 1) base) r)
+
+  pub rows-start : RowsLeft o 6 r 0
+  rows-start =
+      record {
+        within = zero≤;
+        place = rw (zero-mul);
+        reached = rw from-0;
+        long = refl;
+        left = rw from-0;
+      }
+
+  module _ (node : 6 + kept * rs ≤ length o) (room : (r + withOne (twoSizes kept extra (base + 1) base)) * rs ≤ length recs) where
+    module _ (d : List ℕ) (at row i m : ℕ) (inv : RowsLeft d at row i) (h : i < kept) (share : m ≡ pick (ltb i extra) (base + 1) base) where
+      row-left : rowsFrom i ≡ m ∷ rowsFrom (i + 1)
+      row-left = rw share (from-step kept extra (base + 1) base i h)
+
+      reached-next : row + m + 1 + withOne (rowsFrom (i + 1)) ≡ r + withOne (twoSizes kept extra (base + 1) base)
+      unfolding withOne
+      reached-next = let e = rw row-left at (inv .reached) in omega (arith, e)
+
+      -- The row is in the list, and its place in the node.
+      row-there : (row + m) * rs + rs ≤ length recs
+      row-there =
+          let e = reached-next in
+          let s : suc (row + m) ≤ r + withOne (twoSizes kept extra (base + 1) base) = omega arith in
+          le-trans (rw suc-mul at (mul-le-mul-right rs s)) room
+
+      row-place : at + rs ≤ length d
+      row-place =
+          let s : suc i ≤ kept = h in
+          let t = rw suc-mul at (mul-le-mul-right rs s) in
+          omega (arith, inv .place, inv .long)
+
+      -- The numbers of a turn fit.
+      module _ (pos : 0 < rs) (short : length recs < 2 ^ 64) where
+        pub row-next-fits : Fits w64 (row + m + 1)
+        row-next-fits =
+            let e = reached-next in
+            let all = r + withOne (twoSizes kept extra (base + 1) base) in
+            let t : all ≤ length recs = le-trans (le-mul-of-pos-right all pos) room in
+            omega (arith, e, t)
+
+        pub row-fits : Fits w64 (row + m)
+        row-fits = omega (arith, row-next-fits)
+
+        pub row-offset-fits : Fits w64 ((row + m) * rs)
+        row-offset-fits = omega (arith, row-there)
+
+      pub row-asked : (at + rs ≤ length d) × ((row + m) * rs + rs ≤ length recs)
+      row-asked = (row-place, row-there)
+
+      pub place-fits : length o < 2 ^ 64 → Fits w64 (at + rs)
+      place-fits short = omega (arith, row-place, inv .long)
+
+      pub rows-turn : (d′ : List ℕ) → d′ ≡ stored d at (part recs ((row + m) * rs) rs) → RowsLeft d′ (at + rs) (row + m + 1) (i + 1)
+      unfolding rowsAfter
+      rows-turn d′ e =
+          let many : length (part recs ((row + m) * rs) rs) ≡ rs = length-part recs ((row + m) * rs) rs row-there in
+          record {
+            within = omega arith;
+            place = rw (add-one, suc-mul) (omega (arith, inv .place));
+            reached = reached-next;
+            long = ap length e ∙ length-stored d at (part recs ((row + m) * rs) rs) (rw many row-place) ∙ inv .long;
+            left =
+                rw (e, stored-turn d at (at + rs) (part recs ((row + m) * rs) rs) (rowsAfter rs recs (rowsFrom (i + 1)) (row + m + 1)) (omega (arith, row-place)) (rw many))
+                (rw row-left at (inv .left));
+          }
+
+  pub rows-end : (d : List ℕ) (at row i : ℕ) → RowsLeft d at row i → kept ≤ i
+      → (d ≡ stored o 6 (rowsAfter rs recs (twoSizes kept extra (base + 1) base) r)) × (at ≡ 6 + kept * rs)
+  unfolding rowsAfter
+  rows-end d at row i inv h =
+      let e : i ≡ kept = omega (arith, inv .within) in
+      (sym (stored-nil d at) ∙ (rw (from-end kept extra (base + 1) base i h) at (inv .left)), rw (← e) (inv .place))
+
+-- The root of n nodes from node j on: its number, its place and its address fit.
+module _ (start j n ns : ℕ) (pos : 0 < ns) (short : start + (j + n) * ns < 2 ^ 64) where
+  below-all : (j + (n - 1)) * ns ≤ (j + n) * ns
+  below-all = mul-le-mul-right ns (omega arith)
+
+  pub root-fits : Fits w64 (j + (n - 1))
+  root-fits = let a = le-mul-of-pos-right (j + (n - 1)) pos in omega (arith, a, below-all)
+
+  pub root-place-fits : Fits w64 ((j + (n - 1)) * ns)
+  root-place-fits = omega (arith, below-all)
+
+  pub root-address-fits : Fits w64 (start + (j + (n - 1)) * ns)
+  root-address-fits = omega (arith, below-all)
+
+-- `put_pointer`: three fields, one after another.
+module _ (l : Layout) (o d e f : List ℕ) (at t j p q : ℕ) (x : Child) where
+  pub pointer-put : at + pointerSize l t ≤ length o
+      → d ≡ stored o at (le (l .«offset_size») (l .start + (j + (x .nodes - 1)) * l .«node_size»)) → p ≡ at + l .«offset_size»
+      → e ≡ stored d p (le (l .«count_size») (x .records)) → q ≡ p + l .«count_size» → f ≡ stored e q (le t (x .total))
+      → f ≡ stored o at (pointerTo l t x j)
+  unfolding pointerTo
+  pointer-put h hd hp he hq hf =
+      let a = le (l .«offset_size») (l .start + (j + (x .nodes - 1)) * l .«node_size») in
+      let b = le (l .«count_size») (x .records) in
+      let both : e ≡ stored o at (a ++ b) = rw (he, hd) (stored-turn o at p a b (omega arith) (rw le-length hp)) in
+      rw (hf, both, ← append-assoc)
+      (stored-turn o at q (a ++ b) (le t (x .total)) (omega arith) (rw (length-append, le-length, le-length) (omega (arith, hp, hq))))
+
+pointer-length : (l : Layout) (t : ℕ) (x : Child) (j : ℕ) → length (pointerTo l t x j) ≡ pointerSize l t
+unfolding pointerTo
+pointer-length l t x j = simp (length-append, le-length, add-assoc)
+
+pick-some : (b : Bool) (x y : Child) → 0 < x .nodes → 0 < y .nodes → 0 < pick b x y .nodes
+pick-some true x y h k = h
+pick-some false x y h k = k
+
+-- `put_pointers`
+module _ (o : List ℕ) (l : Layout) (at₀ kept extra t j : ℕ) (large small : Child) where
+  abbrev pointersFrom : ℕ → List Child
+  pointersFrom i = from (kept + 1) extra large small i
+
+  -- Before child i: the place, the node reached, and what is left.
+  pub record PointersLeft (d : List ℕ) (at next i : ℕ) : Type 0 where
+    pub within : i ≤ kept + 1
+    pub place : at ≡ at₀ + i * pointerSize l t
+    pub reached : next + nodesOfAll (pointersFrom i) ≡ j + nodesOfAll (twoSizes (kept + 1) extra large small)
+    pub long : length d ≡ length o
+    pub left : stored d at (pointersTo l t (pointersFrom i) next) ≡ stored o at₀ (pointersTo l t (twoSizes (kept + 1) extra large small) j)
+
+  pub pointers-start : PointersLeft o at₀ j 0
+  pointers-start =
+      record { within = zero≤; place = rw (zero-mul, add-zero); reached = rw from-0; long = refl; left = rw from-0 }
+
+  module _ (d : List ℕ) (at next i : ℕ) (x : Child) (inv : PointersLeft d at next i) (h : i ≤ kept) (one : x ≡ pick (ltb i extra) large small) where
+    pointer-left : pointersFrom i ≡ x ∷ pointersFrom (i + 1)
+    pointer-left = rw one (from-step (kept + 1) extra large small i (omega arith))
+
+    next-reached : next + x .nodes + nodesOfAll (pointersFrom (i + 1)) ≡ j + nodesOfAll (twoSizes (kept + 1) extra large small)
+    unfolding nodesOfAll
+    next-reached = let e = rw pointer-left at (inv .reached) in omega (arith, e)
+
+    -- What `put_pointer` asks.
+    pointer-room : at₀ + (kept + 1) * pointerSize l t ≤ length o → at + pointerSize l t ≤ length d
+    pointer-room room =
+        let s : suc i ≤ kept + 1 = omega arith in
+        let m = rw suc-mul at (mul-le-mul-right (pointerSize l t) s) in omega (arith, m, inv .place, inv .long)
+
+    pointer-some : 0 < large .nodes → 0 < small .nodes → 0 < x .nodes
+    pointer-some a b = rw one (pick-some (ltb i extra) large small a b)
+
+    pointer-short : l .start + (j + nodesOfAll (twoSizes (kept + 1) extra large small)) * l .«node_size» < 2 ^ 64
+        → l .start + (next + x .nodes) * l .«node_size» < 2 ^ 64
+    pointer-short short =
+        let e = next-reached in
+        let s : next + x .nodes ≤ j + nodesOfAll (twoSizes (kept + 1) extra large small) = omega arith in
+        let m = mul-le-mul-right (l .«node_size») s in omega (arith, m)
+
+    pub pointer-asked : at₀ + (kept + 1) * pointerSize l t ≤ length o → 0 < large .nodes → 0 < small .nodes → 0 < l .«node_size»
+        → l .start + (j + nodesOfAll (twoSizes (kept + 1) extra large small)) * l .«node_size» < 2 ^ 64
+        → (at + pointerSize l t ≤ length d) × (0 < x .nodes) × (0 < l .«node_size») × (l .start + (next + x .nodes) * l .«node_size» < 2 ^ 64)
+    pointer-asked room a b pos short = (pointer-room room, pointer-some a b, pos, pointer-short short)
+
+    pub next-fits : 0 < l .«node_size» → l .start + (j + nodesOfAll (twoSizes (kept + 1) extra large small)) * l .«node_size» < 2 ^ 64
+        → Fits w64 (next + x .nodes)
+    next-fits pos short = let m = le-mul-of-pos-right (next + x .nodes) pos in omega (arith, m, pointer-short short)
+
+    pub pointers-turn : (d′ : List ℕ) (at′ : ℕ) → at₀ + (kept + 1) * pointerSize l t ≤ length o → d′ ≡ stored d at (pointerTo l t x next)
+        → at′ ≡ at + pointerSize l t → PointersLeft d′ at′ (next + x .nodes) (i + 1)
+    unfolding pointersTo
+    pointers-turn d′ at′ room e p =
+        record {
+          within = omega arith;
+          place = rw (add-one, suc-mul) (omega (arith, p, inv .place));
+          reached = next-reached;
+          long = ap length e ∙ length-stored d at (pointerTo l t x next) (rw (pointer-length l t x next) (pointer-room room)) ∙ inv .long;
+          left =
+              rw (e, stored-turn d at at′ (pointerTo l t x next) (pointersTo l t (pointersFrom (i + 1)) (next + x .nodes)) (omega (arith, pointer-room room)) (rw (pointer-length l t x next) p))
+              (rw pointer-left at (inv .left));
+        }
+
+  pub pointers-end : (d : List ℕ) (at next i : ℕ) → PointersLeft d at next i → kept < i
+      → (d ≡ stored o at₀ (pointersTo l t (twoSizes (kept + 1) extra large small) j)) × (at ≡ at₀ + (kept + 1) * pointerSize l t)
+  unfolding pointersTo
+  pointers-end d at next i inv h =
+      let e : i ≡ kept + 1 = omega (arith, inv .within) in
+      (sym (stored-nil d at) ∙ (rw (from-end (kept + 1) extra large small i (omega arith)) at (inv .left)), rw (← e) (inv .place))
+
+-- How long the parts are.
+length-two : {A : Type 0} (k e : ℕ) (x y : A) → length (twoSizes k e x y) ≡ k
+unfolding twoSizes
+length-two zero e x y = refl
+length-two (suc k) zero x y = ap suc (length-two k zero x y)
+length-two (suc k) (suc e) x y = ap suc (length-two k e x y)
+
+length-rows : (rs : ℕ) (recs ms : List ℕ) (r : ℕ) → (r + withOne ms) * rs ≤ length recs → length (rowsAfter rs recs ms r) ≡ length ms * rs
+unfolding rowsAfter withOne
+length-rows rs recs [] r h = sym (zero-mul rs)
+length-rows rs recs (m ∷ ms) r h =
+    let next : (r + m + 1 + withOne ms) * rs ≤ length recs = rw (add-assoc (r + m) 1, add-assoc r m) (rw (add-assoc m 1) at h) in
+    let less : suc (r + m) ≤ r + m + 1 + withOne ms = omega arith in
+    let here : (r + m) * rs + rs ≤ length recs = le-trans (rw suc-mul at (mul-le-mul-right rs less)) next in
+    rw (length-append, length-part recs ((r + m) * rs) rs here, length-rows rs recs ms (r + m + 1) next, suc-mul) (omega arith)
+
+length-pointers : (l : Layout) (t : ℕ) (xs : List Child) (j : ℕ) → length (pointersTo l t xs j) ≡ length xs * pointerSize l t
+unfolding pointersTo
+length-pointers l t [] j = sym (zero-mul (pointerSize l t))
+length-pointers l t (x ∷ xs) j =
+    rw (length-append, pointer-length, length-pointers l t xs (j + x .nodes), suc-mul) (omega arith)
+
+-- `fill_internal`: front, own records, pointers, checksum, zeros.
+pub inner-filled : (l : Layout) (o d e f z recs : List ℕ) (x : Inner) (at end : ℕ) → InnerFits l (length recs) x → l .«node_size» ≤ length o
+    → d ≡ stored o 0 (66 ∷ 84 ∷ 73 ∷ 78 ∷ 0 ∷ l .«tree_type» ∷ [])
+    → e ≡ stored d 6 (rowsAfter (l .«record_size») recs (innerShares x) (x .«first_row»)) → at ≡ 6 + x .kept * l .«record_size»
+    → f ≡ stored e at (pointersTo l (x .«total_size») (innerChildren x) (x .«first_node»))
+    → end ≡ at + (x .kept + 1) * pointerSize l (x .«total_size»)
+    → z ≡ stored f end (le 4 (lookup3 (take end f)) ++ replicate (l .«node_size» - (end + 4)) 0)
+    → z ≡ stored o 0 (padded (l .«node_size») (innerBytes l recs x))
+unfolding innerBytes
+inner-filled l o d e f z recs x at end fits h hd he hat hf hend hz =
+    let front : List ℕ = 66 ∷ 84 ∷ 73 ∷ 78 ∷ 0 ∷ l .«tree_type» ∷ [] in
+    let rows = rowsAfter (l .«record_size») recs (innerShares x) (x .«first_row») in
+    let ptrs = pointersTo l (x .«total_size») (innerChildren x) (x .«first_node») in
+    let long : length rows ≡ x .kept * l .«record_size» =
+    rw (length-rows (l .«record_size») recs (innerShares x) (x .«first_row») (fits .rows), length-two) in
+    let many : length ptrs ≡ (x .kept + 1) * pointerSize l (x .«total_size») =
+    rw (length-pointers l (x .«total_size») (innerChildren x) (x .«first_node»), length-two) in
+    let first = after-front o d e front rows 6 refl hd he in
+    let both = after-front o e f (front ++ rows) ptrs at (rw (length-append front rows, long) hat) first hf in
+    node-sealed o f z (front ++ (rows ++ ptrs)) end (l .«node_size»)
+    (rw append-assoc at both)
+    (rw (length-append front (rows ++ ptrs), length-append, long, many) (omega (arith, hat, hend)))
+    h hz

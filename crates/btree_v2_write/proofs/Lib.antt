@@ -1,0 +1,9 @@
+-- The laws behind the functions' proofs.
+pub mod Nodes
+pub mod Internal
+pub mod Planned
+pub mod Subtrees
+pub mod Testing
+pub mod Headers
+pub mod Checking
+pub mod Calls

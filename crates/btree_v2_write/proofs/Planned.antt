@@ -1,0 +1,202 @@
+-- The planned node in the terms of the functions that fill it: its children are two sizes of subtrees.
+use mathlib.Core.Path.{_≡_, refl, sym, _∙_, ap}
+use mathlib.Core.Logic.{⊎-elim}
+use mathlib.Core.Bool.{false}
+use mathlib.Core.List.{List, [], _∷_, _++_, append-nil}
+use Prim.Native.Nat.{ℕ, zero, suc, _+_, _-_, _*_, _^_, _≤_, _<_}
+use native.Mathlib.Nat.{one-mul, sub-zero, not-suc-le-zero, suc-sub-suc, zero-sub}
+use native.Mathlib.Numerals.{add-one}
+use native.Mathlib.Omega.{arith}
+use lib.Dec.{ltb}
+use lib.ListN.{length, replicate}
+use borrow.Author.Tests.{lt-ltb, le-ltb}
+use Rattle.fields.specs.Numbers.{pick, part}
+use Rattle.fields.proofs.Numbers.{lt-or-le}
+use Rattle.plan.specs.Tree.{Kids, last, more, Tree, count, size, below, nodes, between}
+use Rattle.plan.specs.Planned.{taken, children, kidsOf, planTree, thin}
+use Rattle.plan.proofs.Dealing.{share, extra, extra-lt, children-is, length-children, children-some, sumOf-children, sum-children, taken-le, taken-pos, all-children-less, all-children-more}
+use Rattle.plan.proofs.Lists.{sumOf, AllOf, sumOf-cong, all-of-map}
+use Rattle.plan.proofs.Plans.{plan-size, plan-nodes, plan-count}
+use Rattle.plan.proofs.Thin.{thin-children, thin-pos}
+use Rattle.format.specs.Bytes.{Form, rows, address, pointerBytes, pointer, pointers, ownRows, internalSignature, internalBytes, padded, kidsImage, image}
+use Rattle.btree_v2_write.specs.declared.Layout.{Layout}
+use Rattle.btree_v2_write.specs.declared.Child.{Child}
+use Rattle.btree_v2_write.specs.declared.Inner.{Inner}
+use Rattle.btree_v2_write.specs.Layouts.{formAt}
+use Rattle.btree_v2_write.specs.Shares.{twoSizes, withOne, rowsAfter, pointerSize, pointerTo, pointersTo, nodesOfAll, innerBytes, innerShares, innerChildren}
+use Rattle.btree_v2_write.specs.Subtrees.{capacities, subtree, subtreeNodes, subtreeImage}
+
+-- The two sizes as runs.
+two-small : {A : Type 0} (k : ℕ) (x y : A) → twoSizes k 0 x y ≡ replicate k y
+unfolding twoSizes
+two-small zero x y = refl
+two-small (suc k) x y = ap (λ l. y ∷ l) (two-small k x y)
+
+pub two-runs : {A : Type 0} (k e : ℕ) (x y : A) → e ≤ k → twoSizes k e x y ≡ replicate e x ++ replicate (k - e) y
+unfolding twoSizes
+two-runs k zero x y h = rw sub-zero (two-small k x y)
+two-runs zero (suc e) x y h = absurd (not-suc-le-zero h)
+two-runs (suc k) (suc e) x y h = rw suc-sub-suc (ap (λ l. x ∷ l) (two-runs k e x y (omega arith)))
+
+-- Where none is large, the large one does not matter.
+two-any : {A : Type 0} (k e : ℕ) (x z y : A) → (0 < e → x ≡ z) → twoSizes k e x y ≡ twoSizes k e z y
+two-any k zero x z y h = two-small k x y ∙ sym (two-small k z y)
+two-any k (suc e) x z y h = rw (h (omega arith))
+
+module _ (c n : ℕ) where
+  pub two-children : twoSizes (taken c n + 1) (extra c n) (share c n + 1) (share c n) ≡ children c n
+  two-children = rw (two-runs (taken c n + 1) (extra c n) (share c n + 1) (share c n) (omega (arith, extra-lt c n)), children-is)
+
+  -- What holds of every child holds of child i.
+  pub each-child : (P : ℕ → Type 0) → AllOf P (children c n) → (i : ℕ) → P (pick (ltb i (extra c n)) (share c n + 1) (share c n))
+  each-child P a i =
+      ⊎-elim
+      (λ (h : i < extra c n). rw (lt-ltb i (extra c n) h) (all-children-more P c n (omega arith) a))
+      (λ (h : extra c n ≤ i). rw (le-ltb i (extra c n) h) (all-children-less P c n a))
+      (lt-or-le i (extra c n))
+
+-- Sums over the children.
+with-one : (ms : List ℕ) → withOne ms ≡ sumOf (λ m. m + 1) ms
+unfolding withOne sumOf
+with-one [] = refl
+with-one (m ∷ ms) = rw (with-one ms)
+
+sum-one : (ms : List ℕ) → sumOf (λ m. m + 1) ms ≡ sumOf (λ m. m) ms + length ms
+unfolding sumOf
+sum-one [] = refl
+sum-one (m ∷ ms) = omega (arith, sum-one ms)
+
+pub one-each : (c n : ℕ) → 1 ≤ n → withOne (children c n) ≡ n + 1
+one-each c n h =
+    rw (with-one, sum-one) (omega (arith, sum-children c n, length-children c n, taken-le c n h))
+
+-- All children but the last.
+front : List ℕ → List ℕ
+front [] = []
+front (m ∷ []) = []
+front (m ∷ k ∷ ms) = m ∷ front (k ∷ ms)
+
+front-two : (k e x y : ℕ) → front (twoSizes (suc k) e x y) ≡ twoSizes k e x y
+unfolding twoSizes front
+front-two zero zero x y = refl
+front-two zero (suc e) x y = refl
+front-two (suc k) zero x y = ap (λ l. y ∷ l) (front-two k zero x y)
+front-two (suc k) (suc zero) x y = ap (λ l. x ∷ l) (front-two k zero x y)
+front-two (suc k) (suc (suc e)) x y = ap (λ l. x ∷ l) (front-two k (suc e) x y)
+
+front-less : (ms : List ℕ) → 0 < length ms → withOne (front ms) < withOne ms
+unfolding front withOne
+front-less [] h = absurd (not-suc-le-zero h)
+front-less (m ∷ []) h = omega arith
+front-less (m ∷ k ∷ ms) h = omega (arith, front-less (k ∷ ms) (omega arith))
+
+module _ (l : Layout) (recs : List ℕ) (d : ℕ) where
+  -- The images of subtrees of these numbers of records, one after another.
+  unfoldable pub images : List ℕ → ℕ → ℕ → List ℕ
+  images [] j r = []
+  images (m ∷ ms) j r = subtreeImage l recs d m j r ++ images ms (j + subtreeNodes l d m) (r + m + 1)
+
+  -- Each has as many records as it says.
+  abbrev Sized : List ℕ → Type 0
+  Sized = AllOf (λ m. size d (subtree l d m) ≡ m)
+
+  pub images-kids : (ms : List ℕ) → 0 < length ms → Sized ms → (j r : ℕ)
+      → kidsImage (formAt l) (l .start) recs d (image (formAt l) (l .start) recs d) (kidsOf (subtree l d) ms) j r ≡ images ms j r
+  unfolding kidsOf kidsImage images subtreeImage subtreeNodes
+  images-kids [] h s j r = absurd (not-suc-le-zero h)
+  images-kids (m ∷ []) h s j r = sym (append-nil _)
+  images-kids (m ∷ k ∷ ms) h s j r =
+      rw (s .0, images-kids (k ∷ ms) (omega arith) (s .1) (j + nodes d (subtree l d m)) (r + m + 1))
+
+  rows-kids : (ms : List ℕ) → 0 < length ms → Sized ms → (r : ℕ)
+      → ownRows (formAt l) (l .start) recs d (kidsOf (subtree l d) ms) r ≡ rowsAfter (l .«record_size») recs (front ms) r
+  unfolding kidsOf ownRows rows rowsAfter front
+  rows-kids [] h s r = absurd (not-suc-le-zero h)
+  rows-kids (m ∷ []) h s r = refl
+  rows-kids (m ∷ k ∷ ms) h s r = rw (s .0, one-mul, rows-kids (k ∷ ms) (omega arith) (s .1) (r + m + 1))
+
+  -- A subtree as a child.
+  abbrev pub childAt : ℕ → Child
+  childAt m = record { records = count d (subtree l d m); total = m; nodes = subtreeNodes l d m }
+
+  unfoldable pub childrenAt : List ℕ → List Child
+  childrenAt [] = []
+  childrenAt (m ∷ ms) = childAt m ∷ childrenAt ms
+
+  children-two : (k e x y : ℕ) → childrenAt (twoSizes k e x y) ≡ twoSizes k e (childAt x) (childAt y)
+  unfolding twoSizes childrenAt
+  children-two zero e x y = refl
+  children-two (suc k) zero x y = ap (λ z. childAt y ∷ z) (children-two k zero x y)
+  children-two (suc k) (suc e) x y = ap (λ z. childAt x ∷ z) (children-two k e x y)
+
+  pub nodes-all : (ms : List ℕ) → nodesOfAll (childrenAt ms) ≡ sumOf (subtreeNodes l d) ms
+  unfolding nodesOfAll childrenAt sumOf
+  nodes-all [] = refl
+  nodes-all (m ∷ ms) = rw (nodes-all ms)
+
+  root-place : (j m : ℕ) → j + (subtreeNodes l d m - 1) ≡ j + below d (subtree l d m)
+  unfolding subtreeNodes nodes
+  root-place j m = omega arith
+
+  module _ (t : ℕ) (e : t ≡ formAt l .tw d) where
+    pointer-at : (m j : ℕ) → size d (subtree l d m) ≡ m → pointer (formAt l) (l .start) recs d (subtree l d m) j ≡ pointerTo l t (childAt m) j
+    unfolding pointer pointerBytes address pointerTo
+    pointer-at m j s = rw (s, e, root-place j m)
+
+    pub pointers-kids : (ms : List ℕ) → 0 < length ms → Sized ms → (j : ℕ)
+        → pointers (formAt l) (l .start) recs d (kidsOf (subtree l d) ms) j ≡ pointersTo l t (childrenAt ms) j
+    unfolding kidsOf pointers pointersTo childrenAt subtreeNodes
+    pointers-kids [] h s j = absurd (not-suc-le-zero h)
+    pointers-kids (m ∷ []) h s j = pointer-at m j (s .0) ∙ sym (append-nil _)
+    pointers-kids (m ∷ k ∷ ms) h s j =
+        rw (pointer-at m j (s .0), pointers-kids (k ∷ ms) (omega arith) (s .1) (j + nodes d (subtree l d m)))
+
+-- The planned node of level d + 1 for n records.
+module _ (l : Layout) (recs : List ℕ) (d n : ℕ) (thick : thin (capacities l) (suc d) n ≡ false) where
+  abbrev pub cap : ℕ
+  cap = capacities l d
+
+  pub sized : AllOf (λ m. size d (subtree l d m) ≡ m) (children cap n)
+  sized = all-of-map _ _ (plan-size (capacities l) d) (children cap n) (thin-children (capacities l) d n thick)
+
+  pub nodes-node : subtreeNodes l (suc d) n ≡ sumOf (subtreeNodes l d) (children cap n) + 1
+  unfolding subtreeNodes
+  nodes-node = plan-nodes (capacities l) d n ∙ rw (sumOf-children (λ m. nodes d (subtree l d m)) cap n)
+
+  -- The numbers of the node as the code has them.
+  pub record Numbers (x : Inner) : Type 0 where
+    pub kept : x .kept ≡ taken cap n
+    pub base : x .base ≡ share cap n
+    pub extra : x .extra ≡ extra cap n
+    pub large : 0 < x .extra → x .large ≡ childAt l recs d (share cap n + 1)
+    pub small : x .small ≡ childAt l recs d (share cap n)
+    pub total : x .«total_size» ≡ formAt l .tw d
+
+  module _ (x : Inner) (is : Numbers x) where
+    shares-are : innerShares x ≡ front (children cap n)
+    shares-are =
+        rw (is .kept, is .extra, is .base, ← two-children, add-one, front-two)
+
+    children-are : innerChildren x ≡ childrenAt l recs d (children cap n)
+    children-are =
+        two-any (x .kept + 1) (x .extra) (x .large) (childAt l recs d (share cap n + 1)) (x .small) (is .large)
+        ∙ rw (is .small, is .kept, is .extra, ← children-two l recs d, two-children)
+
+    pub inner-is : innerBytes l recs x ≡ internalBytes (formAt l) (l .start) recs d (kidsOf (subtree l d) (children cap n)) (x .«first_node») (x .«first_row»)
+    unfolding innerBytes internalBytes
+    inner-is =
+        rw (shares-are, children-are, rows-kids l recs d (children cap n) (children-some cap n) sized (x .«first_row»), pointers-kids l recs d (x .«total_size») (is .total) (children cap n) (children-some cap n) sized (x .«first_node»))
+
+    -- The subtree's image: its children's, and its root's.
+    pub image-is : subtreeImage l recs (suc d) n (x .«first_node») (x .«first_row»)
+        ≡ images l recs d (children cap n) (x .«first_node») (x .«first_row») ++ padded (l .«node_size») (innerBytes l recs x)
+    unfolding subtreeImage image planTree
+    image-is =
+        rw (inner-is, images-kids l recs d (children cap n) (children-some cap n) sized (x .«first_node») (x .«first_row»))
+
+    pub nodes-are : nodesOfAll (innerChildren x) ≡ sumOf (subtreeNodes l d) (children cap n)
+    nodes-are = rw (children-are, nodes-all l recs d (children cap n))
+
+    pub rows-within : withOne (innerShares x) ≤ n
+    rows-within =
+        rw shares-are (omega (arith, front-less (children cap n) (children-some cap n), one-each cap n (thin-pos (capacities l) (suc d) n thick)))

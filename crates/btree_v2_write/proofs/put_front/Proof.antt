@@ -1,0 +1,20 @@
+-- Six bytes at the front.
+use Rattle.btree_v2_write.proofs.Nodes.{six}
+use lib.ListN.{length-set}
+use borrow.Author.Needs.{needs}
+use native.Mathlib.Omega.{arith}
+use Rattle.btree_v2_write.proofs.put_front.Statement.{statement}
+use Rattle.btree_v2_write.proofs.put_front.Tie as tie
+
+pub put-front-spec : {M : Type 1} → statement M
+put-front-spec =
+    tie.close
+    (tie.spec
+    (λ c. search needs)
+    (λ c. simp length-set (omega arith))
+    (λ c. simp length-set (omega arith))
+    (λ c. simp length-set (omega arith))
+    (λ c. simp length-set (omega arith))
+    (λ c. simp length-set (omega arith))
+    (λ c. simp length-set)
+    (λ c. six _ _ _ _ _ _ _ (c .pre)))

@@ -1,0 +1,21 @@
+-- The rows go to their place.
+use Rattle.btree_v2_write.proofs.Nodes.{rows-put}
+use borrow.Author.Needs.{needs}
+use Rattle.btree_v2_write.proofs.put_rows.Statement.{statement}
+use Rattle.btree_v2_write.proofs.put_rows.Tie as tie
+
+pub put-rows-spec : {M : Type 1} → statement M
+put-rows-spec =
+    tie.close
+    (tie.spec
+    (λ c. search needs)
+    (λ c. search needs)
+    (λ c. search needs)
+    (λ c. search needs)
+    (λ c. search needs)
+    (λ c. search needs)
+    (λ c. search needs)
+    (λ c. search needs)
+    (λ c κs. search needs)
+    (λ c. search needs)
+    (λ c. search rows-put))

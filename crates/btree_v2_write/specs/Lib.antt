@@ -1,0 +1,6 @@
+-- The definitions that the contracts of the crate cite.
+pub mod Layouts
+pub mod Shares
+pub mod Subtrees
+pub mod Tests
+pub mod Call

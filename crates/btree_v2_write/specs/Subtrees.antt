@@ -1,0 +1,56 @@
+-- The subtrees of a planned tree, as the function that writes one goes by them.
+use mathlib.Core.Path.{_≡_}
+use mathlib.Core.Bool.{false}
+use mathlib.Core.List.{List}
+use Prim.Native.Nat.{ℕ, _+_, _*_, _^_, _≤_, _<_}
+use lib.Dec.{eqb}
+use lib.ListN.{getD}
+use Rattle.fields.specs.Numbers.{pick}
+use Rattle.node_info.specs.Capacity.{subtreeCapacity, totalWidth}
+use Rattle.plan.specs.Tree.{Tree, nodes}
+use Rattle.plan.specs.Planned.{taken, planTree, thin}
+use Rattle.plan.proofs.Trees.{Everywhere}
+use Rattle.format.specs.Bytes.{image}
+use Rattle.format.proofs.Lengths.{Fit}
+use Rattle.btree_v2_write.specs.declared.Layout.{Layout}
+use Rattle.btree_v2_write.specs.declared.Child.{Child}
+use Rattle.btree_v2_write.specs.Layouts.{formAt}
+
+-- What subtrees of each level hold.
+abbrev pub capacities : Layout → ℕ → ℕ
+capacities l = subtreeCapacity (l .«node_size») (l .«record_size») (l .«offset_size»)
+
+-- The subtree of depth d for n records, its nodes, and its image with node j and record r first.
+abbrev pub subtree : Layout → (d : ℕ) → ℕ → Tree d
+subtree l d n = planTree (capacities l) d n
+
+unfoldable pub subtreeNodes : Layout → ℕ → ℕ → ℕ
+subtreeNodes l d n = nodes d (subtree l d n)
+
+unfoldable pub subtreeImage : Layout → List ℕ → ℕ → ℕ → ℕ → ℕ → List ℕ
+subtreeImage l recs d n j r = image (formAt l) (l .start) recs d (subtree l d n) j r
+
+-- A subtree that can be written: the table's entries are those of its levels, it is not too thin, its nodes fit, its records are in the list,
+-- its nodes in the image, and its addresses below 2^64.
+pub record Ready (l : Layout) (most wide : List ℕ) (records image d n j r : ℕ) : Type 0 where
+  pub low : d ≤ 32
+  pub size : 0 < l .«record_size»
+  pub caps : (u : ℕ) → u < d → getD most u 0 ≡ capacities l u
+  pub widths : (u : ℕ) → u < d → getD wide u 0 ≡ totalWidth (l .«node_size») (l .«record_size») (l .«offset_size») u
+  pub few : n < 2 ^ 24
+  pub thick : thin (capacities l) d n ≡ false
+  pub fits : Everywhere (Fit (formAt l)) d (subtree l d n)
+  pub rows : (r + n) * l .«record_size» ≤ records
+  pub room : (j + subtreeNodes l d n) * l .«node_size» ≤ image
+  pub short : l .start + (j + subtreeNodes l d n) * l .«node_size» < 2 ^ 64
+
+-- What `child_of` gives of a child of level d with m records and this many nodes.
+pub record Made (below d m size : ℕ) (z : Child) : Type 0 where
+  pub records : z .records ≡ pick (eqb d 0) m (taken below m)
+  pub total : z .total ≡ m
+  pub nodes : z .nodes ≡ size
+
+-- A whole tree that can be written: a leaf that fits, or a subtree that is ready.
+pub record Whole (l : Layout) (most wide : List ℕ) (records image d n : ℕ) : Type 0 where
+  pub leaf : d ≡ 0 → (l .«node_size» ≤ image) × (10 + n * l .«record_size» ≤ l .«node_size») × (n * l .«record_size» ≤ records)
+  pub node : (d ≡ 0 → ⊥) → Ready l most wide records image d n 0 0
