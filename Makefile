@@ -8,7 +8,7 @@ SHELL := bash
 .PHONY: test run bench
 
 # The crates whose C functions are linked from Rust.
-EXPORTED := checksum
+EXPORTED := checksum capi
 ARCHIVES := $(EXPORTED:%=target/staticlib/lib%.a)
 CARGO := cd rust && cargo
 

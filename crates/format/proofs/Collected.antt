@@ -122,6 +122,10 @@ module _ (q : Request) where
     unfolding formOf
     room = rw (zero-add, sized, a .records) (le-refl (q .n * q .rs))
 
+    pub image-long : length (imageOf q recs) ≡ nodesOf q * q .ns
+    unfolding imageOf nodesOf formOf
+    image-long = length-image (formOf q) (q .start) recs (depthOf q) tree 0 0 fits room
+
     -- Its nodes stand in the file, and there is room in the output.
     module _ (file out : List ℕ) (stands : part file (q .start) (nodesOf q * q .ns) ≡ imageOf q recs) (long : q .n * q .rs ≤ length out) where
       imaged : Imaged (formOf q) (q .start) recs file (depthOf q) tree 0 0

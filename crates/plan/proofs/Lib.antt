@@ -4,7 +4,6 @@ pub mod Checks
 pub mod Counting
 pub mod Dealing
 pub mod Depths
-pub mod Figures
 pub mod Laying
 pub mod Lists
 pub mod Plans

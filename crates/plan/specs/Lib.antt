@@ -2,4 +2,3 @@
 pub mod Tree
 pub mod Planned
 pub mod Steps
-pub mod Figures

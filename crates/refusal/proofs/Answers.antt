@@ -1,10 +1,10 @@
 -- Laws of an answer as numbers. (`cc` knows that `accepted` and `refused` differ and give back what they hold.)
 use mathlib.Core.Path.{_≡_, refl}
 use mathlib.Core.List.{List, [], _∷_, _++_, append-assoc}
-use Prim.Native.Nat.{ℕ, suc, _+_, _-_, _≤_}
+use Prim.Native.Nat.{ℕ, suc, _+_, _-_, _≤_, _<_}
 use native.Mathlib.Nat.{add-comm}
 use native.Mathlib.Omega.{arith}
-use lib.Dec.{lit≤}
+use lib.Dec.{lit<, lit≤}
 use lib.ListN.{length, take, replicate, length-take, length-append, length-replicate, replicate-append-replicate}
 use lib.Seq.{take-append-add, take-at}
 use Rattle.refusal.specs.declared.Refusal.{Refusal}
@@ -38,24 +38,24 @@ more : (m number : ℕ) (values : List ℕ) → length values ≤ 2
 more m number values h =
     rw (cells-refused (m + 3) number values (2 - length values + m) (omega arith), cells-refused 3 number values (2 - length values) (omega arith), append-assoc, replicate-append-replicate)
 
--- A cause is always a refusal, and has two values at most.
-pub refused-is : (r : Refusal) → (n : ℕ) × (v : List ℕ) × (refusalOf r ≡ refused n v) × (length v ≤ 2)
-refused-is (UnexpectedEof expected available) = (_, _, refl, lit≤ tt)
-refused-is InvalidBTreeV2Signature = (_, _, refl, lit≤ tt)
-refused-is (InvalidBTreeV2Version version) = (_, _, refl, lit≤ tt)
-refused-is (InvalidOffsetSize size) = (_, _, refl, lit≤ tt)
-refused-is (InvalidLengthSize size) = (_, _, refl, lit≤ tt)
-refused-is (ChecksumMismatch expected computed) = (_, _, refl, lit≤ tt)
-refused-is (InvalidNodeSize size) = (_, _, refl, lit≤ tt)
-refused-is ZeroRecordSize = (_, _, refl, lit≤ tt)
-refused-is (TooManyRecords records) = (_, _, refl, lit≤ tt)
-refused-is (LevelHoldsNone level) = (_, _, refl, lit≤ tt)
-refused-is SubtreeTooThin = (_, _, refl, lit≤ tt)
-refused-is (RecordBufferLength size) = (_, _, refl, lit≤ tt)
-refused-is (CountAboveLengthSize records) = (_, _, refl, lit≤ tt)
-refused-is (AddressAboveOffsetSize start) = (_, _, refl, lit≤ tt)
-refused-is (OutputTooShort size) = (_, _, refl, lit≤ tt)
-refused-is (DepthAboveLimit depth) = (_, _, refl, lit≤ tt)
+-- A cause is always a refusal, has two values at most, and a number above 0.
+pub refused-is : (r : Refusal) → (n : ℕ) × (v : List ℕ) × (refusalOf r ≡ refused n v) × (length v ≤ 2) × (0 < n)
+refused-is (UnexpectedEof expected available) = (_, _, refl, lit≤ tt, lit< tt)
+refused-is InvalidBTreeV2Signature = (_, _, refl, lit≤ tt, lit< tt)
+refused-is (InvalidBTreeV2Version version) = (_, _, refl, lit≤ tt, lit< tt)
+refused-is (InvalidOffsetSize size) = (_, _, refl, lit≤ tt, lit< tt)
+refused-is (InvalidLengthSize size) = (_, _, refl, lit≤ tt, lit< tt)
+refused-is (ChecksumMismatch expected computed) = (_, _, refl, lit≤ tt, lit< tt)
+refused-is (InvalidNodeSize size) = (_, _, refl, lit≤ tt, lit< tt)
+refused-is ZeroRecordSize = (_, _, refl, lit≤ tt, lit< tt)
+refused-is (TooManyRecords records) = (_, _, refl, lit≤ tt, lit< tt)
+refused-is (LevelHoldsNone level) = (_, _, refl, lit≤ tt, lit< tt)
+refused-is SubtreeTooThin = (_, _, refl, lit≤ tt, lit< tt)
+refused-is (RecordBufferLength size) = (_, _, refl, lit≤ tt, lit< tt)
+refused-is (CountAboveLengthSize records) = (_, _, refl, lit≤ tt, lit< tt)
+refused-is (AddressAboveOffsetSize start) = (_, _, refl, lit≤ tt, lit< tt)
+refused-is (OutputTooShort size) = (_, _, refl, lit≤ tt, lit< tt)
+refused-is (DepthAboveLimit depth) = (_, _, refl, lit≤ tt, lit< tt)
 
 pub cells-more : (r : Refusal) (m : ℕ) → cells (m + 3) (refusalOf r) ≡ cells 3 (refusalOf r) ++ replicate m 0
 cells-more r m = let s = refused-is r in rw (s .2) (more m (s .0) (s .1) (s .3))

@@ -4,7 +4,7 @@ use std::hint::black_box;
 
 use differential::random::Random;
 
-use crate::timing::{time, Contender};
+use crate::timing::{Contender, Section};
 
 const SIZES: [usize; 7] = [4, 12, 16, 64, 512, 65_536, 16 << 20];
 
@@ -19,39 +19,24 @@ fn plain_c(data: &[u8]) -> u32 {
     unsafe { bench_c_lookup3(data.as_ptr(), data.len()) }
 }
 
-/// Prints a line for each size. Every call goes over a boundary that is not inlined: Rattle and C
-/// by their archives, the Rust by its mark in the oracle.
+/// Every call goes over a boundary that is not inlined: Rattle and C by their archives, the Rust by
+/// its mark in the oracle.
 pub fn run() {
     let bytes = Random::new(1).bytes(SIZES[SIZES.len() - 1]);
-    println!("lookup3, nanoseconds a call, and the time of Rattle over the others'");
-    println!("   bytes       Rattle         Rust            C   Rattle/Rust   Rattle/C");
+    let mut section = Section::new("lookup3, nanoseconds a call", "bytes");
     for size in SIZES {
         let data = &bytes[..size];
         let mut contenders = vec![
-            Contender::new(|| nuldrafon::jenkins_lookup3(black_box(data))),
-            Contender::new(|| plain_c(black_box(data))),
+            Contender::new("Rattle", || nuldrafon::jenkins_lookup3(black_box(data))),
+            Contender::new("C", || plain_c(black_box(data))),
         ];
         if oracle::AVAILABLE {
-            contenders.push(Contender::new(|| oracle::jenkins_lookup3(black_box(data))));
+            contenders.push(Contender::new("Rust", || {
+                oracle::jenkins_lookup3(black_box(data))
+            }));
         }
-        time(&mut contenders);
-        print_row(size, &contenders);
+        section.row(&size.to_string(), 1, contenders);
     }
-}
-
-fn print_row(size: usize, contenders: &[Contender]) {
-    let (rattle, c, rust) = (&contenders[0], &contenders[1], contenders.get(2));
-    let shown = |number: Option<f64>, places: usize| {
-        number.map_or("-".to_string(), |number| format!("{number:.places$}"))
-    };
-    println!(
-        "{size:8} {:>12.1} {:>12} {:>12.1} {:>13} {:>10.2}",
-        rattle.nanoseconds(),
-        shown(rust.map(Contender::nanoseconds), 1),
-        c.nanoseconds(),
-        shown(rust.map(|rust| rattle.over(rust)), 2),
-        rattle.over(c),
-    );
 }
 
 #[cfg(test)]

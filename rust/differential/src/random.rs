@@ -22,6 +22,13 @@ impl Random {
         (scaled >> 64) as u64
     }
 
+    /// A number up to and with `most`, each length in bits as often as the others.
+    pub fn any_magnitude(&mut self, most: u64) -> u64 {
+        let bits = u64::from(most.max(1).ilog2());
+        let shift = self.up_to(bits);
+        self.up_to(most >> shift)
+    }
+
     /// So many bytes.
     pub fn bytes(&mut self, length: usize) -> Vec<u8> {
         let words = (0..length.div_ceil(8)).map(|_| self.number().to_le_bytes());

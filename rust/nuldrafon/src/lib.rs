@@ -1,5 +1,6 @@
 //! Safe calls of the proved functions: a Rust slice goes over as a pointer and a length.
 
+pub mod btree_v2;
 mod c;
 
 /// The lookup3 checksum of `data`, start value 0.

@@ -5,7 +5,7 @@ use differential::checksum::{
     LENGTHS, LONGEST, PUBLISHED,
 };
 use differential::report::{rust_is_there, say, with_rust};
-use differential::stored;
+use differential::stored::checksum as stored;
 
 const OURS: Sum = nuldrafon::jenkins_lookup3;
 const SEED: u64 = 0x0bad_5eed_0000_0001;

@@ -1,5 +1,11 @@
 //! Every comparison of the port with the Rust; each says what it ran.
 
 mod checksum;
+mod differences;
+mod figures;
+mod hostile;
 mod noticing;
+mod noticing_calls;
 mod oracle_figures;
+mod stored;
+mod suites;

@@ -5,7 +5,7 @@ use differential::checksum::{
     LONGEST,
 };
 use differential::report::say;
-use differential::stored;
+use differential::stored::checksum as stored;
 
 const RIGHT: Sum = nuldrafon::jenkins_lookup3;
 

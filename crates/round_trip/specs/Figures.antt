@@ -1,12 +1,15 @@
--- The figures of document 01 that these definitions give, as one table: what is computed, beside what the document says.
+-- The figures of document 01 that are marked P, as one table: what the definitions give, beside what the document says.
 use Prim.Native.Nat.{ℕ, zero, suc, _+_}
 use mathlib.Core.List.{List, [], _∷_, _++_}
-use lib.ListN.{take}
+use lib.ListN.{length, take}
+use Rattle.checksum.specs.Lookup3.{lookup3}
 use Rattle.fields.specs.Numbers.{width}
 use Rattle.refusal.specs.Answer.{cells}
 use Rattle.node_info.specs.Table.{infoAt}
 use Rattle.plan.specs.Tree.{Kids, last, more, Tree, between, size}
 use Rattle.plan.specs.Planned.{planDepth, planned, planAnswer}
+use Rattle.format.specs.Writing.{headerOf}
+use Rattle.btree_v2_write.specs.Call.{asked}
 
 -- The lists that f gives of the children, one after another.
 unfoldable pub joinKids : {A : Type 0} → (A → List ℕ) → Kids A → List ℕ
@@ -32,6 +35,10 @@ rootRecords (suc d) ts = betweenFrom (size d) 0 ts
 unfoldable pub plan : (n rs ns ow : ℕ) → List ℕ
 plan n rs ns ow = cells 5 (planAnswer n rs ns ow)
 
+-- The bytes of a header with these offset and length sizes.
+unfoldable pub headerSize : (ow lw : ℕ) → ℕ
+headerSize ow lw = length (headerOf (asked 5 0 11 512 ow lw 0))
+
 -- The arguments of a plan are N, RS, NS, OW, those of a table NS, RS, OW and its depth.
 unfoldable pub figures : List (List ℕ × List ℕ)
 figures =
@@ -52,4 +59,6 @@ figures =
     ∷ (plan 4 20 48 8, 10 ∷ 2 ∷ 0 ∷ 0 ∷ 0 ∷ [])
     ∷ (plan 0 8 10 8, 0 ∷ 0 ∷ 1 ∷ 1 ∷ 10 ∷ [])
     ∷ (plan 0 8 9 8, 7 ∷ 9 ∷ 0 ∷ 0 ∷ 0 ∷ [])
+    ∷ (headerSize 8 8 ∷ headerSize 2 2 ∷ [], 38 ∷ 26 ∷ [])
+    ∷ (lookup3 [] ∷ [], 0xdeadbeef ∷ [])
     ∷ []

@@ -1,9 +1,9 @@
-//! The stored list of the Rust's checksums, for runs that do not have the Rust.
+//! The stored list of the Rust's checksums.
 
 use crate::checksum::{Outcome, Sum};
 
 /// The list: the text of an array constant.
-pub const STORED: &str = include_str!("../stored/checksum.txt");
+pub const STORED: &str = include_str!("../../stored/checksum.txt");
 
 /// The list has an input of every length from 0 to this.
 pub const LAST: usize = 60;
@@ -28,16 +28,6 @@ pub fn list(sum: Sum) -> String {
 
 /// Holds `sum` to the stored list.
 pub fn hold(sum: Sum) -> Outcome {
-    let given = list(sum);
-    let differing = given
-        .lines()
-        .zip(STORED.lines())
-        .find(|(now, then)| now != then);
-    if let Some((now, then)) = differing {
-        return Err(format!("now \"{now}\", stored \"{then}\""));
-    }
-    if given.len() != STORED.len() {
-        return Err("the stored list has another length".to_string());
-    }
+    super::hold_text(&list(sum), STORED)?;
     Ok(LAST + 1)
 }

@@ -1,0 +1,129 @@
+-- The whole call: nothing to read, its two refusals, and the walk from the root on.
+use mathlib.Core.Path.{_≡_, refl, sym, ap, _∙_}
+use mathlib.Core.List.{List, _++_}
+use Prim.Native.Nat.{ℕ, _+_, _*_, _^_, _≤_, _<_, zero-le}
+use native.Mathlib.Nat.{zero-mul}
+use native.Mathlib.Omega.{arith}
+use lib.Dec.{leb}
+use lib.ListN.{length, getD}
+use borrow.Author.Tests.{le-leb}
+use Rattle.fields.specs.Numbers.{pick, held}
+use Rattle.fields.proofs.Numbers.{held-small}
+use Rattle.refusal.specs.declared.Refusal.{Refusal}
+use Rattle.refusal.specs.declared.Refusal.the-variants.{ZeroRecordSize, DepthAboveLimit}
+use Rattle.refusal.specs.Answer.{cells}
+use Rattle.refusal.proofs.Answers.{refused-is}
+use Rattle.node_info.specs.declared.NodeInfo.{NodeInfo}
+use Rattle.node_info.specs.Table.{infoAt, noInfo}
+use Rattle.node_info.proofs.Columns.{total-entry}
+use Rattle.format.specs.Walk.{Counts, Run, fine, stopped, noCounts, nodeRun}
+use Rattle.format.specs.Reading.{collected, sourceOf, collectTests, countCells, runCells, runOutput}
+use Rattle.format.proofs.Outcomes.{collected-none, collected-root-none, collected-8, collected-16, collected-walk}
+use Rattle.btree_v2.specs.declared.BTreeV2Header.{BTreeV2Header}
+use Rattle.btree_v2.specs.declared.Verdict.{Verdict}
+use Rattle.btree_v2.specs.declared.Verdict.the-variants.{Accepted, Refused}
+use Rattle.btree_v2.specs.declared.Tally.{Tally}
+use Rattle.btree_v2.specs.declared.Collected.{Collected}
+use Rattle.btree_v2.specs.declared.collect.Sizes.{Sizes}
+use Rattle.btree_v2.specs.declared.collect.Node.{Node}
+use Rattle.btree_v2.specs.Answers.{fieldsOf, verdictOf, collectedCells}
+use Rattle.btree_v2.specs.Collecting.{countsOf, runOf, heldRun, sourceAt, Readable, Within, Walked, nodeWalk}
+use Rattle.btree_v2.proofs.Holding.{held-held}
+
+-- What the call promises of a walk that ends as x.
+abbrev Ends : Run → Collected → List ℕ → Type 0
+Ends x r o = (collectedCells r ≡ runCells x) × (o ≡ runOutput x)
+
+-- Held counts or exact ones: the same cells and output.
+cells-held : (x : Run) → runCells (heldRun x) ≡ runCells x
+unfolding runCells
+cells-held (fine c o) = simp held-held
+cells-held (stopped number values c o) = simp held-held
+
+output-held : (x : Run) → runOutput (heldRun x) ≡ runOutput x
+output-held (fine c o) = refl
+output-held (stopped number values c o) = refl
+
+-- An answer's own cells and output.
+cells-of : (v : Verdict) (t : Tally) (o : List ℕ)
+    → runCells (runOf (record { verdict = v; tally = t }) o) ≡ cells 3 (verdictOf v) ++ countCells (countsOf t)
+unfolding runCells
+cells-of Accepted t o = refl
+cells-of (Refused q) t o = rw (refused-is q .2)
+
+output-of : (v : Verdict) (t : Tally) (o : List ℕ) → runOutput (runOf (record { verdict = v; tally = t }) o) ≡ o
+output-of Accepted t o = refl
+output-of (Refused q) t o = rw (refused-is q .2)
+
+walked-ends : (z : Sizes) (x : Run) (r : Collected) (o : List ℕ) → Walked z x r o → r .tally .records < 2 ^ 64
+    → r .tally .leaves < 2 ^ 64 → r .tally .internals < 2 ^ 64 → r .tally .inner < 2 ^ 64 → Ends x r o
+walked-ends z x r o walked a b c d =
+    let count = cells-of (r .verdict) (r .tally) o in (
+      sym
+          (sym (cells-held x) ∙ ap runCells (sym (walked .ends)) ∙ cells-held (runOf r o)
+          ∙ rw (held-small _ a, held-small _ b, held-small _ c, held-small _ d) at count),
+      sym (sym (output-held x) ∙ ap runOutput (sym (walked .ends)) ∙ output-held (runOf r o) ∙ output-of (r .verdict) (r .tally) o),
+    )
+
+abbrev nothing : Tally
+nothing = record { records = 0; leaves = 0; internals = 0; inner = 0 }
+
+module _ (file : List ℕ) (h : BTreeV2Header) (ow : ℕ) (o : List ℕ) where
+  pub no-records : h .«total_records» ≡ 0
+      → Ends (collected file (fieldsOf h) ow o) (record { verdict = Accepted; tally = nothing }) o
+  unfolding runCells
+  no-records e = rw (collected-none file (fieldsOf h) ow o e) (refl, refl)
+
+  pub no-root-records : h .«num_records_in_root» ≡ 0
+      → Ends (collected file (fieldsOf h) ow o) (record { verdict = Accepted; tally = nothing }) o
+  unfolding runCells
+  no-root-records e = rw (collected-root-none file (fieldsOf h) ow o e) (refl, refl)
+
+  module _ (some : h .«total_records» ≡ 0 → ⊥) (root : h .«num_records_in_root» ≡ 0 → ⊥) where
+    pub no-record-size : h .«record_size» ≡ 0
+        → Ends (collected file (fieldsOf h) ow o) (record { verdict = Refused ZeroRecordSize; tally = nothing }) o
+    unfolding runCells
+    no-record-size e = rw (collected-8 file (fieldsOf h) ow o some root e) (refl, refl)
+
+    module _ (sized : h .«record_size» ≡ 0 → ⊥) where
+      pub too-deep : 32 < h .depth
+          → Ends (collected file (fieldsOf h) ow o) (record { verdict = Refused (DepthAboveLimit (h .depth)); tally = nothing }) o
+      unfolding runCells
+      too-deep e = rw (collected-16 file (fieldsOf h) ow o some root sized e) (refl, refl)
+
+      -- The sizes that the table gives, and the walk by them from the root on.
+      module _ (deep : h .depth ≤ 32) (info : NodeInfo)
+          (table : info ≡ pick (leb (h .depth) 32) (infoAt (h .«node_size») (h .«record_size») ow (h .depth)) noInfo) where
+        abbrev sizes : Sizes
+        sizes =
+            record
+            { «node_size» = h .«node_size»; «record_size» = h .«record_size»; «offset_size» = ow; «count_size» = info .«max_nrec_size» }
+
+        abbrev start : Node
+        start = record { address = h .«root_node_address»; records = h .«num_records_in_root» }
+
+        table-is : info ≡ infoAt (h .«node_size») (h .«record_size») ow (h .depth)
+        table-is = rw (le-leb (h .depth) 32 deep) at table
+
+        pub root-asks : Readable sizes (info .«cum_max_nrec_size») (h .depth) × Within sizes nothing o
+        unfolding infoAt
+        root-asks = (
+          record {
+            some = omega arith;
+            deep = deep;
+            counts = rw table-is;
+            totals = λ u k. total-entry (h .«node_size») (h .«record_size») ow (h .depth) info table-is u k deep;
+          },
+          rw zero-mul zero-le,
+        )
+
+        pub root-walked : (r : Collected) (o1 : List ℕ) → Walked sizes (nodeWalk file sizes (h .depth) start (countsOf nothing) o) r o1
+            → r .tally .records < 2 ^ 64 → r .tally .leaves < 2 ^ 64 → r .tally .internals < 2 ^ 64 → r .tally .inner < 2 ^ 64
+            → Ends (collected file (fieldsOf h) ow o) r o1
+        unfolding nodeWalk sourceAt sourceOf
+        root-walked r o1 walked a b c d =
+            rw (collected-walk file (fieldsOf h) ow o some root sized deep) (walked-ends sizes _ r o1 (rw from-root at walked) a b c d)
+          where
+            from-root : nodeWalk file sizes (h .depth) start (countsOf nothing) o
+                ≡ nodeRun (sourceOf file (fieldsOf h) ow) (collectTests (sourceOf file (fieldsOf h) ow)) (h .depth) (h .«root_node_address») (h .«num_records_in_root») noCounts o
+            from-root = refl

@@ -1,0 +1,12 @@
+-- `one_inner` holds the count.
+use Rattle.btree_v2.proofs.Putting.{inner-more}
+use borrow.Author.Needs.{needs}
+use Rattle.btree_v2.proofs.collect.one_inner.Statement.{statement}
+use Rattle.btree_v2.proofs.collect.one_inner.Tie as tie
+
+pub one-inner-spec : {M : Type 1} → statement M
+one-inner-spec =
+    tie.close
+    (tie.spec
+    (λ c κs. search needs)
+    (λ c. inner-more _ _ (c .saturating-add .ensures)))

@@ -1,0 +1,12 @@
+-- `one_internal` holds the count.
+use Rattle.btree_v2.proofs.Putting.{internal-more}
+use borrow.Author.Needs.{needs}
+use Rattle.btree_v2.proofs.collect.one_internal.Statement.{statement}
+use Rattle.btree_v2.proofs.collect.one_internal.Tie as tie
+
+pub one-internal-spec : {M : Type 1} → statement M
+one-internal-spec =
+    tie.close
+    (tie.spec
+    (λ c κs. search needs)
+    (λ c. internal-more _ _ (c .saturating-add .ensures)))

@@ -1,0 +1,27 @@
+-- `fields_at` reads the seven fields.
+use Rattle.btree_v2.proofs.Headers.{fields-are}
+use borrow.Author.Needs.{needs}
+use Rattle.btree_v2.proofs.header.fields_at.Statement.{statement}
+use Rattle.btree_v2.proofs.header.fields_at.Tie as tie
+
+pub fields-at-spec : {M : Type 1} → statement M
+fields-at-spec =
+    tie.close
+    (tie.spec
+    (λ c. search needs)
+    (λ c. search needs)
+    (λ c. search needs)
+    (λ c κs. search needs)
+    (λ c. search needs)
+    (λ c κs. search needs)
+    (λ c. search needs)
+    (λ c κs. search needs)
+    (λ c. search needs)
+    (λ c κs. search needs)
+    (λ c. search needs)
+    (λ c. search needs)
+    (λ c κs. search needs)
+    (λ c. search needs)
+    (λ c. search needs)
+    (λ c κs. search needs)
+    (λ c. fields-are _ _ _ _ _ _ _ _ _ _ (c .before .before .before .before .before .before .before .before .pre .0) (c .before .before .before .before .before .before .before .before .pre .1) (c .before .before .before .before .before .before .before .before .pre .2) (c .before .before .before .before .before .read-u32 .ensures) (c .before .before .before .before .read-u16 .ensures) (c .before .before .before .read-u162 .ensures) (c .before .before .read-le .ensures) (c .before .read-u163 .ensures) (c .read-le2 .ensures)))

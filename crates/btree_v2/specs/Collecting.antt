@@ -1,0 +1,82 @@
+-- The collector's own steps in the terms of the walk: what a tally and an answer say, counts held at 2^64 - 1, and what a step is given
+-- and leaves.
+use Prim.Native.Nat.{ℕ, zero, suc, _*_, _≤_, _<_}
+use mathlib.Core.Path.{_≡_}
+use mathlib.Core.List.{List}
+use lib.ListN.{length, getD}
+use Rattle.fields.specs.Numbers.{held}
+use Rattle.node_info.specs.Capacity.{countWidth, totalWidth}
+use Rattle.format.specs.Walk.{Counts, Run, fine, stopped, andThen, ifPassed, Source, Tests, childRun, innerRun, nodeRun}
+use Rattle.format.specs.Reading.{collectTests}
+use Rattle.btree_v2.specs.Answers.{verdictOf}
+use Rattle.btree_v2.specs.declared.Tally.{Tally}
+use Rattle.btree_v2.specs.declared.Collected.{Collected}
+use Rattle.btree_v2.specs.declared.collect.Sizes.{Sizes}
+use Rattle.btree_v2.specs.declared.collect.Node.{Node}
+
+-- A tally's counts.
+abbrev pub countsOf : Tally → Counts
+countsOf t = record { records = t .records; leaves = t .leaves; internals = t .internals; inner = t .inner }
+
+-- How far a walk has come by an answer and an output.
+abbrev pub runOf : Collected → List ℕ → Run
+runOf r o = ifPassed (verdictOf (r .verdict)) (countsOf (r .tally)) o (fine (countsOf (r .tally)) o)
+
+-- Counts with those of nodes and of records from internal nodes held. The records put out are in the output and need it not.
+abbrev pub heldCounts : Counts → Counts
+heldCounts c =
+    record { records = c .records; leaves = held (c .leaves); internals = held (c .internals); inner = held (c .inner) }
+
+abbrev pub heldRun : Run → Run
+heldRun (fine c o) = fine (heldCounts c) o
+heldRun (stopped number values c o) = stopped number values (heldCounts c) o
+
+-- The file as a walk by these sizes goes over it, and collecting's tests there.
+unfoldable pub sourceAt : List ℕ → Sizes → Source
+sourceAt file z =
+    record {
+      file = file;
+      rs = z .«record_size»;
+      ow = z .«offset_size»;
+      cw = countWidth (z .«node_size») (z .«record_size»);
+      tw = totalWidth (z .«node_size») (z .«record_size») (z .«offset_size»);
+    }
+
+abbrev pub testsAt : List ℕ → Sizes → Tests
+testsAt file z = collectTests (sourceAt file z)
+
+-- Records have bytes, and the sizes of counts and, in l, of totals up to level d are those of the tree.
+pub record Readable (z : Sizes) (l : List ℕ) (d : ℕ) : Type 0 where
+  pub some : 0 < z .«record_size»
+  pub deep : d ≤ 32
+  pub counts : z .«count_size» ≡ countWidth (z .«node_size») (z .«record_size»)
+  pub totals : (u : ℕ) → u ≤ d → getD l u 0 ≡ totalWidth (z .«node_size») (z .«record_size») (z .«offset_size») u
+
+-- The records put out are within the output.
+abbrev pub Within : Sizes → Tally → List ℕ → Type 0
+Within z t o = t .records * z .«record_size» ≤ length o
+
+-- The walk x ends as the answer r and the output o say, all counts held; and the records put out are within the output.
+pub record Walked (z : Sizes) (x : Run) (r : Collected) (o : List ℕ) : Type 0 where
+  pub ends : heldRun (runOf r o) ≡ heldRun x
+  pub within : Within z (r .tally) o
+
+module _ (file : List ℕ) (z : Sizes) where
+  -- The walk over a node of level d.
+  unfoldable pub nodeWalk : ℕ → Node → Counts → List ℕ → Run
+  nodeWalk d x = nodeRun (sourceAt file z) (testsAt file z) d (x .address) (x .records)
+
+  -- The walk over child i and over record i of an internal node whose children have level d.
+  module _ (d : ℕ) (x : Node) where
+    unfoldable pub childWalk : ℕ → Counts → List ℕ → Run
+    childWalk =
+        childRun (sourceAt file z) (testsAt file z) d (x .address) (x .records) (nodeRun (sourceAt file z) (testsAt file z) d)
+
+    unfoldable pub innerWalk : ℕ → Counts → List ℕ → Run
+    innerWalk =
+        innerRun (sourceAt file z) (testsAt file z) d (x .address) (x .records) (nodeRun (sourceAt file z) (testsAt file z) d)
+
+    -- Child i and, while records are left, record i.
+    unfoldable pub childStep : ℕ → ℕ → Counts → List ℕ → Run
+    childStep zero i c o = childWalk i c o
+    childStep (suc left) i c o = andThen (childWalk i c o) (innerWalk i)

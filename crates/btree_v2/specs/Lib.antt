@@ -1,0 +1,4 @@
+-- The definitions that the contracts of the crate cite.
+pub mod Answers
+pub mod Collecting
+pub mod Parsing

@@ -1,0 +1,15 @@
+-- What holds of a header once the header reader's tests up to that of the offset size have passed: document 01, "Header reader".
+use mathlib.Core.Path.{_≡_}
+use mathlib.Core.Bool.{true}
+use mathlib.Core.List.{List}
+use Prim.Native.Nat.{ℕ, _+_, _≤_}
+use lib.ListN.{length}
+use Rattle.fields.specs.Numbers.{part, num, fieldSize}
+use Rattle.format.specs.Bytes.{headerSignature}
+use Rattle.format.specs.Reading.{same}
+
+pub record Begun (file : List ℕ) (o ow : ℕ) : Type 0 where
+  pub there : o + 16 ≤ length file
+  pub signature : same (part file o 4) headerSignature ≡ true
+  pub version : num file (o + 4) 1 ≡ 0
+  pub size : fieldSize ow ≡ true

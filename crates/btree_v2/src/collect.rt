@@ -1,0 +1,424 @@
+// Collecting: the records of a tree, put out end to end into a lent output.
+
+ghost use mathlib.Core.Path.{_≡_};
+ghost use mathlib.Core.List.{[]};
+ghost use Prim.Native.Nat.{ℕ, _+_, _-_, _*_, _^_, _≤_, _<_};
+ghost use lib.ListN.{length};
+ghost use Rattle.refusal.specs.Answer.{accepted};
+ghost use Rattle.fields.specs.Numbers.{part};
+ghost use Rattle.fields.specs.Places.{stored};
+ghost use Rattle.format.specs.Walk.{oneLeaf, oneInternal, oneInner, putRecords, innerRun, nodeRun, pointerWidth, pointerPlace, childAddress, childRecords};
+ghost use Rattle.format.specs.Reading.{leafTest, internalTest, collected, runCells, runOutput};
+ghost use Rattle.btree_v2.specs.Answers.{fieldsOf, verdictOf, collectedCells};
+ghost use Rattle.btree_v2.specs.Collecting.{countsOf, heldCounts, sourceAt, Readable, Within, Walked, nodeWalk, innerWalk, childStep};
+use crate::BTreeV2Header;
+use crate::Collected;
+use crate::Tally;
+use crate::Verdict;
+use crate::check;
+use node_info::NodeInfo;
+use refusal::Refusal;
+
+// Sizes in bytes; those of subtrees' totals stand in a table beside them, by the level of the subtree's root.
+struct Sizes {
+    node_size: u32,
+    record_size: u16,
+    offset_size: u8,
+    // of a child's record count
+    count_size: u8,
+}
+
+// A node as the pointer to it has it.
+struct Node {
+    address: u64,
+    records: u16,
+}
+
+// The tally with one leaf, one internal node, or one record from an internal node more.
+fn one_leaf(tally: Tally) -> Tally
+    ensures { λ r. ⌜ heldCounts (countsOf r) ≡ heldCounts (oneLeaf (countsOf tally)) ⌝ }
+{
+    let leaves = fields::saturating_add(tally.leaves, 1);
+    Tally {
+        records: tally.records,
+        leaves,
+        internals: tally.internals,
+        inner: tally.inner,
+    }
+}
+
+fn one_internal(tally: Tally) -> Tally
+    ensures { λ r. ⌜ heldCounts (countsOf r) ≡ heldCounts (oneInternal (countsOf tally)) ⌝ }
+{
+    let internals = fields::saturating_add(tally.internals, 1);
+    Tally {
+        records: tally.records,
+        leaves: tally.leaves,
+        internals,
+        inner: tally.inner,
+    }
+}
+
+fn one_inner(tally: Tally) -> Tally
+    ensures { λ r. ⌜ heldCounts (countsOf r) ≡ heldCounts (oneInner (countsOf tally)) ⌝ }
+{
+    let inner = fields::saturating_add(tally.inner, 1);
+    Tally {
+        records: tally.records,
+        leaves: tally.leaves,
+        internals: tally.internals,
+        inner,
+    }
+}
+
+// Copies a slice over another of the same length.
+fn copy(to: &mut [u8], from: &[u8])
+    requires { ⌜ length (now to) ≡ length (now from) ⌝ }
+    ensures { λ _. ⌜ now (to .exit) ≡ now (from .entry) ⌝ }
+{
+    let n = to.len();
+    let mut i = 0;
+    while i < n {
+        to[i] = from[i];
+        i += 1;
+    }
+}
+
+// Puts `count` bytes of a file, from `from` on, at `at`.
+fn put_bytes(output: &mut [u8], at: usize, file: &[u8], from: usize, count: usize)
+    requires { ⌜ (at + count ≤ length (now output)) × (from + count ≤ length (now file)) ⌝ }
+    ensures { λ _. ⌜ now (output .exit) ≡ stored (now (output .entry)) at (part (now (file .entry)) from count) ⌝ }
+{
+    copy(&mut output[at..at + count], &file[from..from + count]);
+}
+
+// How many of n records of this size fit into `room` bytes.
+fn fitting(n: u16, size: u16, room: usize) -> usize
+    requires { ⌜ 0 < size ⌝ }
+    ensures { λ r. ⌜ (r ≤ n) × (r * size ≤ room) × (r < n → room < (r + 1) * size) ⌝ }
+{
+    let all = n as usize;
+    let wide = size as usize;
+    if all * wide <= room {
+        return all;
+    }
+    room / wide
+}
+
+// Puts n records from place `from` of the file on out, after those that are there: as many as fit, and 15 where one does not.
+fn put_records(
+    file: &[u8],
+    sizes: Sizes,
+    from: usize,
+    n: u16,
+    tally: Tally,
+    output: &mut [u8],
+) -> Collected
+    requires { ⌜ (0 < sizes .«record_size») × (from + n * sizes .«record_size» ≤ length (now file)) × (Within sizes tally (now output)) ⌝ }
+    ensures { λ r. ⌜ Walked sizes (putRecords (sourceAt (now (file .entry)) sizes) n from (countsOf tally) (now (output .entry))) r (now (output .exit)) ⌝ }
+{
+    let size = sizes.record_size;
+    let at = tally.records as usize * (size as usize);
+    let fit = fitting(n, size, output.len() - at);
+    put_bytes(output, at, file, from, fit * (size as usize));
+    let tally = Tally {
+        records: tally.records + (fit as u64),
+        leaves: tally.leaves,
+        internals: tally.internals,
+        inner: tally.inner,
+    };
+    if fit < n as usize {
+        return Collected {
+            verdict: Verdict::Refused(Refusal::OutputTooShort(output.len() as u64)),
+            tally,
+        };
+    }
+    Collected {
+        verdict: Verdict::Accepted,
+        tally,
+    }
+}
+
+// A leaf's tests.
+fn check_leaf(file: &[u8], sizes: Sizes, node: Node) -> Verdict
+    ensures { λ r. ⌜ verdictOf r ≡ leafTest (sourceAt (now (file .entry)) sizes) (node .address) (node .records) ⌝ }
+{
+    let front = check::ensure_len(file, node.address, 6);
+    let Verdict::Accepted = front else {
+        return front;
+    };
+    let at = node.address as usize;
+    if !check::has_signature(file, at, b'L', b'F') {
+        return Verdict::Refused(Refusal::InvalidBTreeV2Signature);
+    }
+    let bytes = (node.records as u64) * (sizes.record_size as u64);
+    let records = check::ensure_len(file, node.address + 6, bytes);
+    let Verdict::Accepted = records else {
+        return records;
+    };
+    let end = at + 6 + (bytes as usize);
+    if file.len() - end < 4 {
+        return Verdict::Accepted;
+    }
+    check::check_checksum(file, at, end)
+}
+
+// Reads a leaf, whose records are put out at once.
+fn collect_leaf(file: &[u8], sizes: Sizes, node: Node, tally: Tally, output: &mut [u8]) -> Collected
+    requires { ⌜ (0 < sizes .«record_size») × (Within sizes tally (now output)) ⌝ }
+    ensures { λ r. ⌜ Walked sizes (nodeWalk (now (file .entry)) sizes 0 node (countsOf tally) (now (output .entry))) r (now (output .exit)) ⌝ }
+{
+    let verdict = check_leaf(file, sizes, node);
+    let Verdict::Accepted = verdict else {
+        return Collected { verdict, tally };
+    };
+    let from = node.address as usize + 6;
+    put_records(file, sizes, from, node.records, one_leaf(tally), output)
+}
+
+// The bytes of a pointer to a child whose total has this size.
+fn pointer_size(sizes: Sizes, total_size: u8) -> usize
+    ensures { λ r. ⌜ (r ≡ sizes .«offset_size» + sizes .«count_size» + «total_size») × (r < 1024) ⌝ }
+{
+    (sizes.offset_size as usize) + (sizes.count_size as usize) + (total_size as usize)
+}
+
+// An internal node's tests; its children have level `under`.
+fn check_internal(
+    file: &[u8],
+    sizes: Sizes,
+    total_sizes: &[u8; 33],
+    under: usize,
+    node: Node,
+) -> Verdict
+    requires { ⌜ Readable sizes (now «total_sizes») under ⌝ }
+    ensures { λ r. ⌜ verdictOf r ≡ internalTest (sourceAt (now (file .entry)) sizes) under (node .address) (node .records) ⌝ }
+{
+    let front = check::ensure_len(file, node.address, 6);
+    let Verdict::Accepted = front else {
+        return front;
+    };
+    let at = node.address as usize;
+    if !check::has_signature(file, at, b'I', b'N') {
+        return Verdict::Refused(Refusal::InvalidBTreeV2Signature);
+    }
+    let rest = &file[at..];
+    let bytes = (node.records as u64) * (sizes.record_size as u64);
+    let records = check::ensure_len(rest, 6, bytes);
+    let Verdict::Accepted = records else {
+        return records;
+    };
+    let wide = pointer_size(sizes, total_sizes[under]) as u64;
+    let pointers = check::ensure_len(rest, 6 + bytes, ((node.records as u64) + 1) * wide);
+    let Verdict::Accepted = pointers else {
+        return pointers;
+    };
+    if fields::is_field_size(sizes.offset_size) {
+        return Verdict::Accepted;
+    }
+    Verdict::Refused(Refusal::InvalidOffsetSize(sizes.offset_size))
+}
+
+// Child i of an internal node, from its pointer.
+fn read_pointer(
+    file: &[u8],
+    sizes: Sizes,
+    total_sizes: &[u8; 33],
+    under: usize,
+    node: Node,
+    i: usize,
+) -> Node
+    requires { ⌜ Readable sizes (now «total_sizes») under ⌝ }
+    requires { ⌜ internalTest (sourceAt (now file) sizes) under (node .address) (node .records) ≡ accepted [] ⌝ }
+    requires { ⌜ i ≤ node .records ⌝ }
+    ensures { λ r. ⌜ (r .address ≡ childAddress (sourceAt (now (file .entry)) sizes) (pointerPlace (sourceAt (now (file .entry)) sizes) under (node .address) (node .records) i)) × (r .records ≡ childRecords (sourceAt (now (file .entry)) sizes) (pointerPlace (sourceAt (now (file .entry)) sizes) under (node .address) (node .records) i)) ⌝ }
+{
+    let wide = pointer_size(sizes, total_sizes[under]);
+    let bytes = (node.records as usize) * (sizes.record_size as usize);
+    let at = node.address as usize + 6 + bytes + i * wide;
+    let address = fields::read_le(file, at, sizes.offset_size as usize);
+    let count = fields::read_le(
+        file,
+        at + (sizes.offset_size as usize),
+        sizes.count_size as usize,
+    );
+    Node {
+        address,
+        records: (count % 65536) as u16,
+    }
+}
+
+// Puts record i of an internal node out.
+fn put_inner(
+    file: &[u8],
+    sizes: Sizes,
+    under: usize,
+    node: Node,
+    i: usize,
+    tally: Tally,
+    output: &mut [u8],
+) -> Collected
+    requires { ⌜ internalTest (sourceAt (now file) sizes) under (node .address) (node .records) ≡ accepted [] ⌝ }
+    requires { ⌜ (i < node .records) × (0 < sizes .«record_size») × (Within sizes tally (now output)) ⌝ }
+    ensures { λ r. ⌜ Walked sizes (innerWalk (now (file .entry)) sizes under node i (countsOf tally) (now (output .entry))) r (now (output .exit)) ⌝ }
+{
+    let from = node.address as usize + 6 + i * (sizes.record_size as usize);
+    let put = put_records(file, sizes, from, 1, tally, output);
+    let verdict = put.verdict;
+    let Verdict::Accepted = verdict else {
+        return put;
+    };
+    let tally = put.tally;
+    Collected {
+        verdict: Verdict::Accepted,
+        tally: one_inner(tally),
+    }
+}
+
+// Reads the node of level `depth`: a leaf, or an internal node with its children, one after another, and its records between them.
+fn collect_node(
+    file: &[u8],
+    sizes: Sizes,
+    total_sizes: &[u8; 33],
+    depth: usize,
+    node: Node,
+    tally: Tally,
+    output: &mut [u8],
+) -> Collected
+    requires { ⌜ Readable sizes (now «total_sizes») depth ⌝ }
+    requires { ⌜ Within sizes tally (now output) ⌝ }
+    ensures { λ r. ⌜ Walked sizes (nodeWalk (now (file .entry)) sizes depth node (countsOf tally) (now (output .entry))) r (now (output .exit)) ⌝ }
+{
+    if depth == 0 {
+        return collect_leaf(file, sizes, node, tally, output);
+    }
+    let under = depth - 1;
+    let verdict = check_internal(file, sizes, total_sizes, under, node);
+    let Verdict::Accepted = verdict else {
+        return Collected { verdict, tally };
+    };
+    let mut tally = one_internal(tally);
+    let mut i = 0;
+    let mut left = node.records as usize + 1;
+    while 0 < left {
+        let child = collect_child(
+            file,
+            sizes,
+            total_sizes,
+            under,
+            node,
+            i,
+            left,
+            tally,
+            output,
+        );
+        let verdict = child.verdict;
+        let Verdict::Accepted = verdict else {
+            return child;
+        };
+        tally = child.tally;
+        i += 1;
+        left -= 1;
+    }
+    Collected {
+        verdict: Verdict::Accepted,
+        tally,
+    }
+}
+
+// Reads child i of an internal node, the first of `left` children that are left, and puts record i out unless it is the last.
+fn collect_child(
+    file: &[u8],
+    sizes: Sizes,
+    total_sizes: &[u8; 33],
+    under: usize,
+    node: Node,
+    i: usize,
+    left: usize,
+    tally: Tally,
+    output: &mut [u8],
+) -> Collected
+    requires { ⌜ Readable sizes (now «total_sizes») under ⌝ }
+    requires { ⌜ internalTest (sourceAt (now file) sizes) under (node .address) (node .records) ≡ accepted [] ⌝ }
+    requires { ⌜ (i + left ≡ node .records + 1) × (0 < left) × (Within sizes tally (now output)) ⌝ }
+    ensures { λ r. ⌜ Walked sizes (childStep (now (file .entry)) sizes under node (left - 1) i (countsOf tally) (now (output .entry))) r (now (output .exit)) ⌝ }
+{
+    let below = read_pointer(file, sizes, total_sizes, under, node, i);
+    let child = collect_node(file, sizes, total_sizes, under, below, tally, output);
+    let verdict = child.verdict;
+    let Verdict::Accepted = verdict else {
+        return child;
+    };
+    if left == 1 {
+        return child;
+    }
+    let tally = child.tally;
+    put_inner(file, sizes, under, node, i, tally, output)
+}
+
+// Collects the records of the tree that a header describes into the front of the output.
+pub fn collect_btree_v2_records(
+    file: &[u8],
+    header: BTreeV2Header,
+    offset_size: u8,
+    output: &mut [u8],
+) -> Collected
+    ensures { λ r. ⌜ (collectedCells r ≡ runCells (collected (now (file .entry)) (fieldsOf header) «offset_size» (now (output .entry)))) × (now (output .exit) ≡ runOutput (collected (now (file .entry)) (fieldsOf header) «offset_size» (now (output .entry)))) ⌝ }
+{
+    let tally = Tally {
+        records: 0,
+        leaves: 0,
+        internals: 0,
+        inner: 0,
+    };
+    if header.total_records == 0 {
+        return Collected {
+            verdict: Verdict::Accepted,
+            tally,
+        };
+    }
+    if header.num_records_in_root == 0 {
+        return Collected {
+            verdict: Verdict::Accepted,
+            tally,
+        };
+    }
+    if header.record_size == 0 {
+        return Collected {
+            verdict: Verdict::Refused(Refusal::ZeroRecordSize),
+            tally,
+        };
+    }
+    if NodeInfo::LEVEL_LIMIT < header.depth {
+        return Collected {
+            verdict: Verdict::Refused(Refusal::DepthAboveLimit(header.depth)),
+            tally,
+        };
+    }
+    let answer = NodeInfo::compute(
+        header.node_size,
+        header.record_size,
+        offset_size,
+        header.depth,
+    );
+    let info = answer.info;
+    let sizes = Sizes {
+        node_size: header.node_size,
+        record_size: header.record_size,
+        offset_size,
+        count_size: info.max_nrec_size,
+    };
+    let root = Node {
+        address: header.root_node_address,
+        records: header.num_records_in_root,
+    };
+    collect_node(
+        file,
+        sizes,
+        &info.cum_max_nrec_size,
+        header.depth as usize,
+        root,
+        tally,
+        output,
+    )
+}

@@ -1,0 +1,3 @@
+-- The laws behind the claim on the three calls, and the table of figures.
+pub mod Claims
+pub mod Figures

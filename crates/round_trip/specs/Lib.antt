@@ -1,0 +1,3 @@
+-- The definitions that the contract of the three calls cites, and the table of figures.
+pub mod Trip
+pub mod Figures

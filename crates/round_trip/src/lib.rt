@@ -1,0 +1,78 @@
+// A write, the header reader and the collector, one after another: demand 3 as one claim on the three calls.
+
+ghost use Rattle.btree_v2_write.specs.Call.{asked};
+ghost use Rattle.round_trip.specs.Trip.{Tripped};
+use btree_v2::BTreeV2Header;
+use btree_v2::Collected;
+use btree_v2::HeaderAnswer;
+use btree_v2::Tally;
+use btree_v2::Verdict;
+use plan::PlanAnswer;
+
+// The three calls' answers. Where the header is refused, nothing is collected and the verdict is that refusal.
+pub struct RoundTrip {
+    pub written: PlanAnswer,
+    pub header: HeaderAnswer,
+    pub collected: Collected,
+}
+
+// Writes a tree, reads the header at a place of a file, and collects the tree of that header.
+pub fn round_trip(
+    tree_type: u8,
+    record_count: u64,
+    record_size: u16,
+    node_size: u32,
+    offset_size: u8,
+    length_size: u8,
+    start: u64,
+    records: &[u8],
+    header: &mut [u8],
+    image: &mut [u8],
+    file: &[u8],
+    place: u64,
+    output: &mut [u8],
+) -> RoundTrip
+    ensures { λ r. ⌜ Tripped (asked «tree_type» «record_count» «record_size» «node_size» «offset_size» «length_size» start) (record { records = now (records .entry); header = now (header .entry); image = now (image .entry); file = now (file .entry); place = place; output = now (output .entry) }) r (now (header .exit)) (now (image .exit)) (now (output .exit)) ⌝ }
+{
+    let written = btree_v2_write::write(
+        tree_type,
+        record_count,
+        record_size,
+        node_size,
+        offset_size,
+        length_size,
+        start,
+        records,
+        header,
+        image,
+    );
+    let parsed = BTreeV2Header::parse(file, place, offset_size, length_size);
+    match parsed {
+        HeaderAnswer::Parsed(found) => {
+            let collected = btree_v2::collect::collect_btree_v2_records(
+                file,
+                found,
+                offset_size,
+                output,
+            );
+            RoundTrip {
+                written,
+                header: parsed,
+                collected,
+            }
+        }
+        HeaderAnswer::Refused(cause) => RoundTrip {
+            written,
+            header: parsed,
+            collected: Collected {
+                verdict: Verdict::Refused(cause),
+                tally: Tally {
+                    records: 0,
+                    leaves: 0,
+                    internals: 0,
+                    inner: 0,
+                },
+            },
+        },
+    }
+}

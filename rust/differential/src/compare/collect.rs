@@ -1,0 +1,216 @@
+//! Collecting: the families of cases.
+
+use super::graft::grafted;
+use super::sample::{self, for_each, Sample, Sizes};
+use super::{grid, same, Comparison, Held};
+use crate::model::{Geometry, LEVEL_LIMIT};
+use crate::random::Random;
+use crate::subject::Tree;
+
+/// The output in which the trees of small files end, or are not given to the Rust.
+const ROOM: usize = 1 << 16;
+/// Trees at any geometry, made-up headers for each small file, and random graphs of nodes.
+const TREES: usize = 10_000;
+const HEADERS: usize = 4_000;
+const GRAPHS: usize = 120_000;
+/// Images up to this long get every damage of a byte.
+const EVERY_DAMAGE: usize = 300;
+
+/// Whole files into outputs of every length around every number of records.
+pub fn as_written(to: &mut Comparison, random: &mut Random) -> Held {
+    let room = &mut [0; ROOM];
+    for_each(to, random, |to, sample, _| {
+        to.hold_whole("as written", sample, room)?;
+        let size = usize::from(sample.tree.geometry.record_size);
+        for records in 0..=sample.tree.total_records as usize {
+            for extra in [0, 1, size - 1, size + 1] {
+                let length = records * size + extra;
+                to.hold_collect("outputs", &sample.file, &sample.tree, length, room)?;
+            }
+        }
+        Ok(())
+    })
+}
+
+/// Trees at any geometry: whole, into an output of any length, and damaged.
+pub fn of_any_geometry(to: &mut Comparison, random: &mut Random) -> Held {
+    let room = &mut [0; ROOM];
+    for _ in 0..TREES {
+        let Some(mut sample) = sample::any(to.subject, random) else {
+            continue;
+        };
+        to.hold_whole("any geometry", &sample, room)?;
+        let whole = sample.records.len();
+        let output = random.up_to(whole as u64) as usize;
+        to.hold_collect("any geometry", &sample.file, &sample.tree, output, room)?;
+        let [_, image] = sample.parts();
+        let place = image.start + random.up_to(image.len() as u64 - 1) as usize;
+        sample.file[place] ^= 1 << random.up_to(7);
+        let (file, tree) = (&sample.file, &sample.tree);
+        to.hold_collect("any geometry, damaged", file, tree, whole, room)?;
+    }
+    Ok(())
+}
+
+/// Every end of the file.
+pub fn cut(to: &mut Comparison, random: &mut Random) -> Held {
+    let room = &mut [0; ROOM];
+    for_each(to, random, |to, sample, _| {
+        let output = sample.records.len();
+        for length in 0..sample.file.len() {
+            to.hold_collect("cut", &sample.file[..length], &sample.tree, output, room)?;
+        }
+        Ok(())
+    })
+}
+
+/// Each byte of the nodes changed, in every way in the smallest files and in some in the others,
+/// into outputs that are mostly long enough.
+pub fn damaged(to: &mut Comparison, random: &mut Random) -> Held {
+    let room = &mut [0; ROOM];
+    for_each(to, random, |to, sample, random| {
+        let [_, image] = sample.parts();
+        let turns: Vec<u8> = match image.len() {
+            0..=EVERY_DAMAGE => (1..=0xff).collect(),
+            _ => vec![1, 2, 4, 8, 16, 32, 64, 128, 0xff],
+        };
+        for place in image {
+            for &turn in &turns {
+                let output = match random.up_to(7) {
+                    0 => random.up_to(sample.records.len() as u64) as usize,
+                    _ => sample.records.len() + 100,
+                };
+                sample.file[place] ^= turn;
+                to.hold_collect("damaged", &sample.file, &sample.tree, output, room)?;
+                sample.file[place] ^= turn;
+            }
+        }
+        Ok(())
+    })
+}
+
+/// Headers with some numbers made up, over the small files.
+pub fn with_made_up_headers(to: &mut Comparison, random: &mut Random) -> Held {
+    let room = &mut [0; ROOM];
+    for_each(to, random, |to, sample, random| {
+        for _ in 0..HEADERS {
+            let tree = made_up(sample, random);
+            let output = random.any_magnitude(2 * ROOM as u64) as usize;
+            to.hold_collect("made-up headers", &sample.file, &tree, output, room)?;
+        }
+        Ok(())
+    })
+}
+
+/// A header that differs in some of its numbers.
+fn made_up(sample: &Sample, random: &mut Random) -> Tree {
+    let mut tree = sample.tree;
+    for _ in 0..=random.up_to(2) {
+        match random.up_to(8) {
+            0 => tree.depth = random.up_to(LEVEL_LIMIT.into()) as u16,
+            1 => tree.root_records = random.any_magnitude(u16::MAX.into()) as u16,
+            2 => tree.root_address = any_address(sample, random),
+            3 => tree.geometry.node_size = random.any_magnitude(u32::MAX.into()) as u32,
+            4 => tree.geometry.record_size = random.any_magnitude(u16::MAX.into()) as u16,
+            5 => tree.geometry.offset_size = random.up_to(255) as u8,
+            6 => tree.geometry.offset_size = grid::field_size(random),
+            7 => tree.total_records = random.any_magnitude(u64::MAX),
+            _ if random.up_to(9) == 0 => tree.depth = random.up_to(u16::MAX.into()) as u16,
+            _ => tree.tree_type = random.up_to(255) as u8,
+        }
+    }
+    tree
+}
+
+/// A node's address, one in the file or somewhat after its end, or one near 2^64.
+fn any_address(sample: &Sample, random: &mut Random) -> u64 {
+    let node_size = u64::from(sample.tree.geometry.node_size);
+    let root = sample.tree.root_address;
+    match random.up_to(3) {
+        0 => random.up_to(sample.file.len() as u64 + 9),
+        1 => u64::MAX - random.any_magnitude(80),
+        _ => root - random.up_to((root - sample.image_at as u64) / node_size) * node_size,
+    }
+}
+
+/// Nodes that point at one another at random, deep ones and shared ones among them.
+pub fn of_random_graphs(to: &mut Comparison, random: &mut Random) -> Held {
+    let room = &mut [0; ROOM];
+    for _ in 0..GRAPHS {
+        let (file, tree) = grafted(random);
+        let output = match random.up_to(3) {
+            0 => random.any_magnitude(ROOM as u64) as usize,
+            _ => 4_000,
+        };
+        to.hold_collect("random graphs", &file, &tree, output, room)?;
+    }
+    Ok(())
+}
+
+/// Trees of up to millions of records, of depth 1 to 4, and how often each is damaged or cut.
+const LARGE: [(Sizes, usize); 7] = [
+    (large(65_536, 24, 8, 5_500_000), 1),
+    (large(2_048, 8, 8, 4_000_000), 2),
+    (large(4_096, 8, 8, 2_000_000), 3),
+    (large(512, 11, 8, 608_349), 8),
+    (large(512, 11, 4, 1_000_000), 4),
+    (large(65_536, 24, 4, 200_000), 20),
+    (large(100, 5, 4, 200_000), 20),
+];
+
+const fn large(node_size: u32, record_size: u16, offset_size: u8, record_count: u64) -> Sizes {
+    Sizes {
+        geometry: Geometry::new(node_size, record_size, offset_size),
+        length_size: 8,
+        record_count,
+    }
+}
+
+/// Large files: whole, into a short output, cut anywhere, and with a bit or a byte turned anywhere.
+pub fn of_many_records(to: &mut Comparison, random: &mut Random) -> Held {
+    for (turn, (sizes, times)) in LARGE.into_iter().enumerate() {
+        let sample = Sample::new(to.subject, sizes, turn % 2 == 0, random);
+        let mut sample = sample.ok_or("a large tree was refused")?;
+        let [_, image] = sample.parts();
+        let whole = sample.records.len();
+        let mut room = vec![0; whole];
+        to.hold_whole("large", &sample, &mut room)?;
+        let short = random.up_to(whole as u64) as usize;
+        to.hold_collect("large", &sample.file, &sample.tree, short, &mut room)?;
+        for _ in 0..times {
+            let place = image.start + random.up_to(image.len() as u64 - 1) as usize;
+            let (file, tree) = (&sample.file[..place], &sample.tree);
+            to.hold_collect("large, cut", file, tree, whole, &mut room)?;
+            let turn = [1 << random.up_to(7), 0xff][random.up_to(1) as usize];
+            sample.file[place] ^= turn;
+            let (file, tree) = (&sample.file, &sample.tree);
+            to.hold_collect("large, damaged", file, tree, whole, &mut room)?;
+            sample.file[place] ^= turn;
+        }
+    }
+    Ok(())
+}
+
+impl Comparison<'_> {
+    /// Holds the collecting of a whole tree to what was written, too.
+    fn hold_whole(&mut self, class: &'static str, sample: &Sample, room: &mut [u8]) -> Held {
+        let (tree, whole) = (&sample.tree, sample.records.len());
+        self.hold_collect(class, &sample.file, tree, whole, room)?;
+        let case = || format!("whole {tree:?}");
+        let answer = self.subject.collect(&sample.file, tree, room);
+        let size = u64::from(tree.geometry.node_size);
+        let nodes = (tree.root_address - sample.image_at as u64) / size + 1;
+        let [number, _, _, records, leaves, internals, inner] = answer;
+        same([number, records], [0, tree.total_records], "written:", case)?;
+        same(&room[..whole], &sample.records[..], "written:", case)?;
+        if records > 0 {
+            same(
+                [leaves, leaves + internals],
+                [inner + 1, nodes],
+                "written:",
+                case,
+            )?;
+        }
+        Ok(())
+    }
+}

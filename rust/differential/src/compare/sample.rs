@@ -1,0 +1,191 @@
+//! Written trees in files, amid other bytes.
+
+use std::ops::Range;
+
+use super::bytes::repeated;
+use super::{grid, rust, Comparison, Held};
+use crate::model::{header_size, plan, Geometry, Plan};
+use crate::random::Random;
+use crate::subject::{Subject, Tree, Writing};
+
+/// A file with one tree, and what was written.
+pub struct Sample {
+    pub file: Vec<u8>,
+    pub header_at: usize,
+    pub image_at: usize,
+    pub length_size: u8,
+    pub tree: Tree,
+    pub records: Vec<u8>,
+}
+
+/// The sizes of a sample.
+#[derive(Clone, Copy)]
+pub struct Sizes {
+    pub geometry: Geometry,
+    pub length_size: u8,
+    pub record_count: u64,
+}
+
+impl Sizes {
+    fn header_length(&self) -> usize {
+        header_size(self.geometry.offset_size, self.length_size)
+    }
+
+    fn records_length(&self) -> usize {
+        self.record_count as usize * usize::from(self.geometry.record_size)
+    }
+}
+
+impl Sample {
+    /// A tree of random type and records, written by the Rust where that is asked for and it is
+    /// there; none where the write is refused. Header and image come in any order.
+    pub fn new(
+        subject: &dyn Subject,
+        sizes: Sizes,
+        by_rust: bool,
+        random: &mut Random,
+    ) -> Option<Sample> {
+        let plan = plan(sizes.record_count, sizes.geometry).ok()?;
+        let image_length = plan.image_size as usize;
+        let [front, middle, end] = [30, 20, 20].map(|most| random.any_magnitude(most) as usize);
+        let (header_at, image_at) = match random.up_to(1) {
+            0 => (front, front + sizes.header_length() + middle),
+            _ => (front + image_length + middle, front),
+        };
+        let records = repeated(random, sizes.records_length());
+        let given = Writing {
+            tree_type: random.up_to(255) as u8,
+            record_count: sizes.record_count,
+            geometry: sizes.geometry,
+            length_size: sizes.length_size,
+            start: image_at as u64,
+            records: &records,
+        };
+        let (header, image) = written(subject, &given, &plan, by_rust)?;
+        let length = front + header.len() + middle + image.len() + end;
+        let mut file = repeated(random, length);
+        file[header_at..header_at + header.len()].copy_from_slice(&header);
+        file[image_at..image_at + image.len()].copy_from_slice(&image);
+        Some(Sample {
+            file,
+            header_at,
+            image_at,
+            length_size: sizes.length_size,
+            tree: tree_of(&given, &plan),
+            records,
+        })
+    }
+
+    /// The places of the header and of the image, the parts of the file that are read.
+    pub fn parts(&self) -> [Range<usize>; 2] {
+        let header = header_size(self.tree.geometry.offset_size, self.length_size);
+        let last = self.tree.root_address as usize + self.tree.geometry.node_size as usize;
+        [self.header_at..self.header_at + header, self.image_at..last]
+    }
+}
+
+/// The header and the image by the Rust or by the subject.
+fn written(
+    subject: &dyn Subject,
+    given: &Writing,
+    plan: &Plan,
+    by_rust: bool,
+) -> Option<(Vec<u8>, Vec<u8>)> {
+    if by_rust && oracle::AVAILABLE {
+        return rust::serialize(given);
+    }
+    let mut header = vec![0; header_size(given.geometry.offset_size, given.length_size)];
+    let mut image = vec![0; plan.image_size as usize];
+    let answer = subject.write(given, &mut header, &mut image);
+    (answer[0] == 0).then_some((header, image))
+}
+
+/// Runs a check on every small tree, written by the subject and by the Rust.
+pub fn for_each(
+    to: &mut Comparison,
+    random: &mut Random,
+    mut check: impl FnMut(&mut Comparison, &mut Sample, &mut Random) -> Held,
+) -> Held {
+    for sizes in SMALL {
+        for by_rust in [false, true] {
+            let sample = Sample::new(to.subject, sizes, by_rust, random);
+            check(to, &mut sample.ok_or("a small tree was refused")?, random)?;
+        }
+    }
+    Ok(())
+}
+
+/// A tree of up to some hundred records at any geometry of the grid, by the subject or the Rust;
+/// none where the write is refused.
+pub fn any(subject: &dyn Subject, random: &mut Random) -> Option<Sample> {
+    let geometry = grid::one_of_the_grid(random);
+    let mut counts = grid::boundaries(geometry);
+    counts.retain(|&count| count <= MOST_RECORDS_OF_ANY);
+    let sizes = Sizes {
+        geometry,
+        length_size: grid::field_size(random),
+        record_count: match random.up_to(1) {
+            0 => random.up_to(MOST_RECORDS_OF_ANY),
+            _ => counts[random.up_to(counts.len() as u64 - 1) as usize],
+        },
+    };
+    Sample::new(subject, sizes, random.up_to(1) == 0, random)
+}
+
+const MOST_RECORDS_OF_ANY: u64 = 600;
+
+/// What the header of a written tree says.
+fn tree_of(given: &Writing, plan: &Plan) -> Tree {
+    Tree {
+        tree_type: given.tree_type,
+        geometry: given.geometry,
+        depth: plan.depth,
+        root_address: plan.root_address(given.start, given.geometry),
+        root_records: plan.root_records(given.record_count) as u16,
+        total_records: given.record_count,
+    }
+}
+
+/// Small trees of every kind: empty, a leaf, a full leaf, thin and full trees of depth 1 to 4, one
+/// and two bytes for a count, all field sizes.
+const SMALL: [Sizes; 25] = [
+    small(40, 8, 8, 8, 0),
+    small(10, 1, 2, 2, 0),
+    small(40, 8, 8, 8, 1),
+    small(40, 8, 4, 2, 3),
+    small(26, 8, 8, 4, 2),
+    small(100, 1, 2, 8, 90),
+    small(1_034, 2, 8, 8, 512),
+    small(40, 8, 8, 8, 4),
+    small(40, 8, 2, 2, 4),
+    small(40, 8, 4, 8, 7),
+    small(48, 20, 8, 8, 3),
+    small(64, 3, 4, 4, 60),
+    small(128, 11, 8, 8, 50),
+    small(280, 1, 2, 4, 271),
+    small(280, 1, 4, 2, 700),
+    small(40, 8, 8, 8, 8),
+    small(40, 8, 2, 4, 15),
+    small(36, 4, 2, 2, 30),
+    small(64, 9, 4, 4, 40),
+    small(30, 2, 2, 8, 100),
+    small(40, 8, 8, 2, 16),
+    small(26, 2, 2, 2, 60),
+    small(24, 1, 2, 2, 100),
+    small(40, 8, 8, 4, 31),
+    small(40, 8, 8, 8, 33),
+];
+
+const fn small(
+    node_size: u32,
+    record_size: u16,
+    offset_size: u8,
+    length_size: u8,
+    record_count: u64,
+) -> Sizes {
+    Sizes {
+        geometry: Geometry::new(node_size, record_size, offset_size),
+        length_size,
+        record_count,
+    }
+}

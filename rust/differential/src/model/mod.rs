@@ -1,0 +1,23 @@
+//! A second implementation of the five calls, from document 01 alone: plain before quick.
+//!
+//! It shares no code with the wrapper or the oracle. An answer is accepted figures or a refusal.
+
+mod arrays;
+mod collect;
+mod header;
+mod lookup3;
+mod numbers;
+mod plan;
+mod refusal;
+mod table;
+mod write;
+
+pub use arrays::Model;
+pub use collect::{collect, Collected, Counts};
+pub use header::parse;
+pub use lookup3::lookup3;
+pub use numbers::width;
+pub use plan::{plan, Node, Plan, MOST_RECORDS};
+pub use refusal::{Answer, Refusal};
+pub use table::{table, Geometry, Table, LEVEL_LIMIT};
+pub use write::{header_size, write};

@@ -1,0 +1,134 @@
+//! The stored list of collecting.
+
+use super::images::BEFORE;
+use super::{array, List};
+use crate::compare::{Comparison, Held};
+use crate::model::{plan, Geometry, Model};
+use crate::random::Random;
+use crate::subject::{Call, Subject, Tree, Writing};
+
+pub const LIST: List = List {
+    name: "collecting",
+    call: Call::Collect,
+    stored: include_str!("../../stored/collecting.txt"),
+    text,
+    family,
+};
+
+const LAYOUT: &str = "\
+// Collecting: rows of file length, tree type, node size, record size, depth, root address, root
+// records, records in all, offset size, output length, and the seven numbers of the answer. Every
+// byte of the output is 238 before the call. COLLECT_BYTES holds for each row the file and then the
+// output as the call leaves it.
+";
+
+/// A collecting.
+struct Case {
+    file: Vec<u8>,
+    tree: Tree,
+    output_length: usize,
+}
+
+/// A tree of numbered bytes behind 3 others, without the zeros after its root.
+fn written(geometry: Geometry, record_count: u64) -> Case {
+    const FRONT: usize = 3;
+    let plan = plan(record_count, geometry).expect("the sample tree has a plan");
+    let length = record_count as usize * usize::from(geometry.record_size);
+    let records: Vec<u8> = (0..length).map(|i| i as u8).collect();
+    let given = Writing {
+        tree_type: 5,
+        record_count,
+        geometry,
+        length_size: 8,
+        start: FRONT as u64,
+        records: &records,
+    };
+    let mut file = vec![0xaa; FRONT + plan.image_size as usize];
+    Model.write(&given, &mut [0; 38], &mut file[FRONT..]);
+    let zeros = file.iter().rev().take_while(|&&byte| byte == 0).count();
+    file.truncate(file.len() - zeros);
+    let tree = Tree {
+        tree_type: 5,
+        geometry,
+        depth: plan.depth,
+        root_address: plan.root_address(given.start, geometry),
+        root_records: plan.root_records(record_count) as u16,
+        total_records: record_count,
+    };
+    Case {
+        file,
+        tree,
+        output_length: length + 2,
+    }
+}
+
+fn cases() -> Vec<Case> {
+    let mut cases: Vec<Case> = [
+        (Geometry::new(40, 8, 8), 0),
+        (Geometry::new(40, 8, 8), 3),
+        (Geometry::new(40, 8, 8), 4),
+        (Geometry::new(30, 2, 2), 40),
+        (Geometry::new(280, 1, 4), 280),
+    ]
+    .map(|(geometry, count)| written(geometry, count))
+    .into();
+    for (record_count, fault) in FAULTS {
+        let mut case = written(Geometry::new(21, 3, 2), record_count);
+        fault(&mut case);
+        cases.push(case);
+    }
+    cases
+}
+
+type Fault = fn(&mut Case);
+
+/// What can go wrong with a tree of 4 records (leaves at 3 and 24, root at 45) or of 8 (leaves at
+/// 3, 24, 66 and 87, inner nodes at 45 and 108, root at 129).
+const FAULTS: [(u64, Fault); 22] = [
+    (8, |case| case.output_length = 24),
+    (8, |case| case.output_length = 23),
+    (8, |case| case.output_length = 8),
+    (4, |case| case.output_length = 6),
+    (4, |case| case.output_length = 2),
+    (4, |case| case.output_length = 0),
+    (8, |case| case.file[45] ^= 1),
+    (8, |case| case.file[66] ^= 1),
+    (8, |case| case.file[93] ^= 1),
+    (8, |case| case.file[118] ^= 0x40),
+    (4, |case| case.file[45] ^= 1),
+    (4, |case| case.file[51] ^= 1),
+    (4, |case| case.file[54] ^= 0xff),
+    (4, |case| case.file[56] ^= 0x02),
+    (4, |case| case.file.truncate(50)),
+    (4, |case| case.file.truncate(53)),
+    (4, |case| case.file.truncate(59)),
+    (4, |case| case.tree.root_address = u64::MAX - 3),
+    (4, |case| case.tree.geometry.offset_size = 1),
+    (4, |case| case.tree.geometry.record_size = 0),
+    (4, |case| case.tree.depth = 33),
+    (4, |case| case.tree.total_records = 0),
+];
+
+fn text(subject: &dyn Subject) -> String {
+    let mut rows: Vec<Vec<u64>> = Vec::new();
+    let mut bytes: Vec<Vec<u8>> = Vec::new();
+    for case in cases() {
+        let mut output = vec![BEFORE; case.output_length];
+        let answer = subject.collect(&case.file, &case.tree, &mut output);
+        let mut row = vec![case.file.len() as u64];
+        row.extend(case.tree.figures());
+        row.extend([case.tree.geometry.offset_size.into(), output.len() as u64]);
+        row.extend(answer);
+        rows.push(row);
+        bytes.extend([case.file, output]);
+    }
+    let rows = array("COLLECT_ROWS", "u64", &rows);
+    format!("{LAYOUT}{rows}{}", array("COLLECT_BYTES", "u8", &bytes))
+}
+
+fn family(to: &mut Comparison, _: &mut Random) -> Held {
+    cases().iter().try_for_each(|case| {
+        let room = &mut [0; 1_000];
+        to.hold_collect("stored", &case.file, &case.tree, case.output_length, room)
+    })
+}

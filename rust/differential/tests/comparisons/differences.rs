@@ -1,0 +1,120 @@
+//! Where the Rust goes on and an added refusal stops the port: one input for each.
+
+use std::panic::{catch_unwind, AssertUnwindSafe};
+
+use differential::compare::rust;
+use differential::model::{Geometry, Model};
+use differential::rattle::Rattle;
+use differential::report::with_rust;
+use differential::subject::{Subject, Tree, Writing};
+
+/// A write of zeros.
+fn zeros(records: &[u8], record_count: u64, geometry: Geometry) -> Writing<'_> {
+    Writing {
+        tree_type: 5,
+        record_count,
+        geometry,
+        length_size: 2,
+        start: 0,
+        records,
+    }
+}
+
+/// The number and the first value of the refusal of a write into long buffers.
+fn refused(given: &Writing) -> (u64, u64) {
+    let answer = Rattle.write(given, &mut [0; 38], &mut vec![0; 1 << 20]);
+    (answer[0], answer[1])
+}
+
+/// What the Rust writes.
+fn write(given: &Writing) -> (Vec<u8>, Vec<u8>) {
+    rust::serialize(given).expect("the Rust has a plan")
+}
+
+#[test]
+fn writes() {
+    with_rust("the Rust writes on where 4, 7 and 13 refuse", || {
+        let records = [0; 65_536];
+        let given = zeros(&records, 65_536, Geometry::new(512, 1, 8));
+        assert_eq!(refused(&given), (13, 65_536));
+        assert_eq!(write(&given).0[26..28], [0, 0], "its count is cut");
+
+        let given = zeros(&records, 65_536, Geometry::new(65_546, 1, 8));
+        assert_eq!(refused(&given), (7, 65_546));
+        assert_eq!(write(&given).0[24..26], [0, 0], "its root's count is cut");
+
+        let given = zeros(&[], 0, Geometry::new(9, 8, 8));
+        assert_eq!(refused(&given), (7, 9));
+        assert_eq!(write(&given).1.len(), 9, "its checksum is cut");
+
+        let given = zeros(&records[..32], 4, Geometry::new(40, 8, 3));
+        assert_eq!(refused(&given), (4, 3));
+        assert_eq!(write(&given).0.len(), 27, "an address has 3 bytes");
+    });
+}
+
+#[test]
+fn starts_and_record_buffers() {
+    with_rust("the Rust writes on where 12 and 14 refuse", || {
+        let records = [0; 33];
+        let mut given = zeros(&records[..32], 4, Geometry::new(40, 8, 2));
+        for (start, root) in [(65_416, 65_496_u16), (65_455, 65_535), (65_456, 0)] {
+            given.start = start;
+            assert_eq!(refused(&given), (14, start));
+            assert_eq!(write(&given).0[16..18], root.to_le_bytes());
+        }
+
+        given.start = 0;
+        given.records = &records;
+        assert_eq!(refused(&given), (12, 33));
+        assert_eq!(write(&given).1.len(), 120);
+        given.records = &records[..31];
+        assert_eq!(refused(&given), (12, 31));
+        assert!(catch_unwind(AssertUnwindSafe(|| write(&given))).is_err());
+    });
+}
+
+#[test]
+fn plans() {
+    with_rust("the Rust plans on where 4, 7, 8 and 9 refuse", || {
+        let most = 16_777_215;
+        for (number, count, geometry) in [
+            (4, 4, Geometry::new(40, 8, 3)),
+            (7, 0, Geometry::new(9, 8, 8)),
+            (7, 65_536, Geometry::new(65_546, 1, 8)),
+            (8, 0, Geometry::new(40, 0, 8)),
+            (9, most + 1, Geometry::new(65_536, 24, 8)),
+        ] {
+            assert_eq!(Rattle.plan(count, geometry)[0], number);
+            assert!(
+                rust::plan(count, geometry).is_some(),
+                "{count} at {geometry}"
+            );
+        }
+    });
+}
+
+#[test]
+fn collecting() {
+    with_rust("the Rust collects on where 8 and 16 refuse", || {
+        let mut tree = Tree {
+            tree_type: 5,
+            geometry: Geometry::new(40, 0, 8),
+            depth: 0,
+            root_address: 0,
+            root_records: 3,
+            total_records: 3,
+        };
+        let mut leaf = [0; 40];
+        let empty = zeros(&[], 0, Geometry::new(40, 8, 8));
+        assert_eq!(Model.write(&empty, &mut [0; 38], &mut leaf)[0], 0);
+        assert_eq!(Rattle.collect(&leaf, &tree, &mut [])[0], 8);
+        assert_eq!(rust::collect_apart(&leaf, &tree), Ok(vec![vec![]; 3]));
+
+        tree.geometry.record_size = 8;
+        tree.depth = 33;
+        let answer = Rattle.collect(&leaf, &tree, &mut []);
+        assert_eq!((answer[0], answer[1]), (16, 33));
+        assert_eq!(rust::collect(&leaf, &tree), Err([2, 0, 0]));
+    });
+}

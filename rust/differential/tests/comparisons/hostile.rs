@@ -1,0 +1,154 @@
+//! Files made to keep a reader busy or to end its stack: each collecting ends soon.
+
+use std::thread;
+use std::time::{Duration, Instant};
+
+use differential::compare::nodes::{Form, Pointer};
+use differential::model::{Geometry, LEVEL_LIMIT};
+use differential::rattle::Rattle;
+use differential::report::say;
+use differential::subject::{CollectAnswer, Subject, Tree};
+
+/// The stack that a collecting gets.
+const STACK: usize = 256 << 10;
+const SOON: Duration = Duration::from_secs(10);
+/// The most records of a node, for which a count has two bytes.
+const MOST: usize = 65_535;
+const WIDE: Geometry = Geometry::new(65_545, 1, 8);
+
+/// A file with one node of each level, and its root.
+struct Tower {
+    file: Vec<u8>,
+    address: u64,
+    records: usize,
+}
+
+/// Node after node from the leaf up to level 32: each has as many records as is said for its level,
+/// and all its pointers lead to the node below it.
+fn tower(records: impl Fn(u16) -> usize) -> Tower {
+    let form = Form::new(WIDE, LEVEL_LIMIT);
+    let mut file = Vec::new();
+    let mut below = Pointer {
+        address: 0,
+        records: 0,
+        total: 0,
+    };
+    for level in 0..=LEVEL_LIMIT {
+        let own = vec![level as u8; records(level)];
+        let node = match level {
+            0 => form.leaf(&own),
+            _ => form.internal(level, &own, &vec![below; own.len() + 1]),
+        };
+        below.address = file.len() as u64;
+        below.records = own.len() as u64;
+        file.extend(node);
+    }
+    Tower {
+        file,
+        address: below.address,
+        records: below.records as usize,
+    }
+}
+
+fn header(address: u64, records: usize, depth: u16) -> Tree {
+    Tree {
+        tree_type: 5,
+        geometry: WIDE,
+        depth,
+        root_address: address,
+        root_records: records as u16,
+        total_records: u64::MAX,
+    }
+}
+
+/// Collects on a small stack, says what was read, and holds the nodes to 33 for each record and 33.
+fn collect(name: &str, file: &[u8], tree: &Tree, output_length: usize) -> CollectAnswer {
+    let begin = Instant::now();
+    let answer = thread::scope(|scope| {
+        let run = || Rattle.collect(file, tree, &mut vec![0; output_length]);
+        let thread = thread::Builder::new().stack_size(STACK);
+        let thread = thread.spawn_scoped(scope, run).expect("a thread starts");
+        thread.join().expect("the collecting ends")
+    });
+    let taken = begin.elapsed();
+    let [number, _, _, records, leaves, internals, _] = answer;
+    let nodes = leaves + internals;
+    say(&format!(
+        "hostile file, {name}: refusal {number}, {} bytes of file, {output_length} of output, \
+         {nodes} nodes read, {:.3} for each byte of output, {} ms",
+        file.len(),
+        nodes as f64 / output_length as f64,
+        taken.as_millis(),
+    ));
+    assert!(taken < SOON, "{name} took {taken:?}");
+    assert!(
+        nodes <= (records + 1) * (u64::from(LEVEL_LIMIT) + 1),
+        "{name}: {nodes} nodes"
+    );
+    answer
+}
+
+/// Collects from a tower into an output that is full in the end.
+fn fill(name: &str, tower: &Tower, output_length: usize) -> CollectAnswer {
+    let tree = header(tower.address, tower.records, LEVEL_LIMIT);
+    let answer = collect(name, &tower.file, &tree, output_length);
+    let length = output_length as u64;
+    assert_eq!(answer[..4], [15, length, 0, length], "{name}");
+    answer
+}
+
+#[test]
+fn most_children_at_every_level() {
+    fill("65,536 children at 32 levels", &tower(|_| MOST), 1 << 20);
+    let empty_leaf = tower(|level| if level == 0 { 0 } else { MOST });
+    fill(
+        "65,536 children at 32 levels, no records in leaves",
+        &empty_leaf,
+        1 << 20,
+    );
+}
+
+#[test]
+fn all_children_one_node() {
+    let two = tower(|level| usize::from(level > 0));
+    let answer = fill("both children one node at 32 levels", &two, 1 << 20);
+    assert_eq!(answer[4], answer[3] + 1, "a leaf before each record");
+}
+
+#[test]
+fn chains_without_records() {
+    let chains = tower(|level| if level == LEVEL_LIMIT { MOST } else { 0 });
+    let tree = header(chains.address, chains.records, LEVEL_LIMIT);
+    let answer = collect("65,536 chains of 32 nodes", &chains.file, &tree, MOST);
+    let children = MOST as u64 + 1;
+    let internals = 31 * children + 1;
+    assert_eq!(
+        answer,
+        [0, 0, 0, MOST as u64, children, internals, MOST as u64]
+    );
+}
+
+#[test]
+fn node_that_is_its_own_child() {
+    let form = Form::new(WIDE, LEVEL_LIMIT);
+    let own = Pointer {
+        address: 0,
+        records: 1,
+        total: 0,
+    };
+    let file = form.internal(LEVEL_LIMIT, &[7], &[own; 2]);
+    let answer = collect(
+        "a node that is its own child",
+        &file,
+        &header(0, 1, LEVEL_LIMIT),
+        100,
+    );
+    assert_eq!(answer, [2, 0, 0, 0, 0, LEVEL_LIMIT.into(), 0]);
+}
+
+#[test]
+fn deepest_header() {
+    let file = Form::new(WIDE, 0).leaf(&[7]);
+    let answer = collect("depth 65,535", &file, &header(0, 1, u16::MAX), 100);
+    assert_eq!(answer, [16, u16::MAX.into(), 0, 0, 0, 0, 0]);
+}
