@@ -1,5 +1,6 @@
--- The definitions computed on small trees and files, beside the answers due. Bytes, headers read, records collected and refusals 1 to 6 with
--- their figures are what the Rust gave for the same input; counts, what a refused collecting leaves, and refusals 7 to 16 are document 01's.
+-- The definitions computed on small trees and files, beside the answers due. Bytes, headers read, records collected and the reading calls'
+-- refusals 1 to 6 with their figures are what the Rust gave for the same input; counts, what a refused collecting leaves, and a write's
+-- refusals and 8, 15 and 16 are document 01's.
 use mathlib.Core.Path.{_≡_, refl}
 use mathlib.Core.List.{List, [], _∷_, _++_, reverse}
 use Prim.Native.Nat.{ℕ, zero, suc, _+_, _-_, _*_, _%_}

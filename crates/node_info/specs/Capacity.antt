@@ -44,7 +44,7 @@ module _ (ns rs ow : ℕ) where
   nodeCapacity zero = leafCapacity ns rs
   nodeCapacity (suc u) = internalCapacity (totalWidth u)
 
-  -- From level u on, k levels at most: the first that is enough for n records, or that holds none.
+  -- From level u on: the first that is enough for n records, or that holds none, or the k-th after it.
   unfoldable pub depthFrom : ℕ → ℕ → ℕ → ℕ
   depthFrom n zero u = u
   depthFrom n (suc k) u =
@@ -52,6 +52,6 @@ module _ (ns rs ow : ℕ) where
       pick (leb n (subtreeCapacity u)) u (pick (eqb (nodeCapacity u) 0) u later)
 
   -- The level at which the search for the depth of n records ends: that depth if the level is enough for n, else the first that holds
-  -- none.
+  -- none, level 32 at the latest.
   unfoldable pub depthFor : ℕ → ℕ
   depthFor n = depthFrom n 32 0

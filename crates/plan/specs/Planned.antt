@@ -18,7 +18,7 @@ use Rattle.plan.specs.declared.PlanAnswer.the-variants.{Planned, Refused
 abbrev pub ceilDiv : ℕ → ℕ → ℕ
 ceilDiv a b = (a + (b - 1)) / b
 
--- The records that an internal node of n records in all keeps, if each child's subtree holds c at most.
+-- k: the records that an internal node of n records in all keeps, if each child's subtree holds c at most.
 unfoldable pub taken : ℕ → ℕ → ℕ
 taken c n = max 1 (ceilDiv (n - c) (c + 1))
 
@@ -45,7 +45,7 @@ unfoldable pub anyOf : (ℕ → Bool) → List ℕ → Bool
 anyOf f [] = false
 anyOf f (n ∷ ns) = f n || anyOf f ns
 
--- Whether the subtree, or one in it, has too few records for its depth.
+-- Whether the subtree, or one in it, has too few records for its depth d: below 2^(d + 1) - 1.
 unfoldable pub thin : (ℕ → ℕ) → ℕ → ℕ → Bool
 thin c zero n = ltb n 1
 thin c (suc d) n = ltb n (2 ^ (d + 2) - 1) || anyOf (thin c d) (children (c d) n)

@@ -1,3 +1,4 @@
 -- The laws behind the claim on the three calls, and the table of figures.
 pub mod Claims
 pub mod Figures
+pub mod Roots
