@@ -149,19 +149,19 @@ module _ (o recs : List ℕ) (rs kept base extra r : ℕ) where
       let e : i ≡ kept = omega (arith, inv .within) in
       (sym (stored-nil d at) ∙ (rw (from-end kept extra (base + 1) base i h) at (inv .left)), rw (← e) (inv .place))
 
--- The root of n nodes from node j on: its number, its place and its address fit.
-module _ (start j n ns : ℕ) (pos : 0 < ns) (short : start + (j + n) * ns < 2 ^ 64) where
-  below-all : (j + (n - 1)) * ns ≤ (j + n) * ns
-  below-all = mul-le-mul-right ns (omega arith)
+-- A node x among the n nodes from node j on, or the one after them: its number, its place and its address fit.
+module _ (start j n ns : ℕ) (pos : 0 < ns) (short : start + (j + n) * ns < 2 ^ 64) (x : ℕ) (within : x ≤ j + n) where
+  below-all : x * ns ≤ (j + n) * ns
+  below-all = mul-le-mul-right ns within
 
-  pub root-fits : Fits w64 (j + (n - 1))
-  root-fits = let a = le-mul-of-pos-right (j + (n - 1)) pos in omega (arith, a, below-all)
+  pub node-fits : Fits w64 x
+  node-fits = let a = le-mul-of-pos-right x pos in omega (arith, a, below-all)
 
-  pub root-place-fits : Fits w64 ((j + (n - 1)) * ns)
-  root-place-fits = omega (arith, below-all)
+  pub node-place-fits : Fits w64 (x * ns)
+  node-place-fits = omega (arith, below-all)
 
-  pub root-address-fits : Fits w64 (start + (j + (n - 1)) * ns)
-  root-address-fits = omega (arith, below-all)
+  pub node-address-fits : Fits w64 (start + x * ns)
+  node-address-fits = omega (arith, below-all)
 
 -- `put_pointer`: three fields, one after another.
 module _ (l : Layout) (o d e f : List ℕ) (at t j p q : ℕ) (x : Child) where

@@ -221,14 +221,26 @@ module _ (l : Layout) (most wide recs o : List ℕ) (depth n j r : ℕ) (ready :
   unfolding subtreeImage subtreeNodes nodes below image planTree
   leaf-done o′ e = (rw none e, rw none)
 
--- A node of depth at least 1, after its records were dealt.
-module _ (l : Layout) (most wide recs o : List ℕ) (depth n j r k b x : ℕ) (given : Ready l most wide (length recs) (length o) depth n j r) (pos : depth ≡ 0 → ⊥)
-    (hk : k ≡ taken (getD most (depth - 1) 0) n) (hb : b ≡ share (getD most (depth - 1) 0) n) (hx : x ≡ extra (getD most (depth - 1) 0) n) where
+-- A node of depth at least 1 that keeps k records; its children have b records, the first x of them one more.
+pub record Dealt (l : Layout) (most wide recs o : List ℕ) (depth n j r k b x : ℕ) : Type 0 where
+  pub given : Ready l most wide (length recs) (length o) depth n j r
+  pub pos : depth ≡ 0 → ⊥
+  pub kept : k ≡ taken (getD most (depth - 1) 0) n
+  pub base : b ≡ share (getD most (depth - 1) 0) n
+  pub extra : x ≡ extra (getD most (depth - 1) 0) n
+
+module _ {l : Layout} {most wide recs o : List ℕ} {depth n j r k b x : ℕ} (dealt : Dealt l most wide recs o depth n j r k b x) where
+  given : Ready l most wide (length recs) (length o) depth n j r
+  given = dealt .given
+
   abbrev under : ℕ
   under = depth - 1
 
   deeper : depth ≡ suc under
-  deeper = omega arith
+  deeper = omega (arith, dealt .pos)
+
+  lower : under < depth
+  lower = omega (arith, dealt .pos)
 
   ready : Ready l most wide (length recs) (length o) (suc under) n j r
   ready = subst (λ z. Ready l most wide (length recs) (length o) z n j r) deeper given
@@ -237,13 +249,13 @@ module _ (l : Layout) (most wide recs o : List ℕ) (depth n j r k b x : ℕ) (g
   entry = cap-is l most wide (length recs) (length o) under n j r ready
 
   k-is : k ≡ taken (capacities l under) n
-  k-is = rw entry at hk
+  k-is = rw entry at (dealt .kept)
 
   b-is : b ≡ share (capacities l under) n
-  b-is = rw entry at hb
+  b-is = rw entry at (dealt .base)
 
   x-is : x ≡ extra (capacities l under) n
-  x-is = rw entry at hx
+  x-is = rw entry at (dealt .extra)
 
   all-is : twoSizes (k + 1) x (b + 1) b ≡ children (capacities l under) n
   all-is = rw (k-is, x-is, b-is) (two-children (capacities l under) n)
@@ -262,7 +274,7 @@ module _ (l : Layout) (most wide recs o : List ℕ) (depth n j r k b x : ℕ) (g
 
   pub width-small : Fits w64 (getD wide under 0)
   width-small =
-      omega (arith, given .widths under (omega arith), total-le (l .«node_size») (l .«record_size») (l .«offset_size») under)
+      omega (arith, given .widths under lower, total-le (l .«node_size») (l .«record_size») (l .«offset_size») under)
 
   extra-few : x ≤ k
   extra-few = omega (arith, x-is, k-is, extra-lt (capacities l under) n)
@@ -281,7 +293,7 @@ module _ (l : Layout) (most wide recs o : List ℕ) (depth n j r k b x : ℕ) (g
       rw same (child-ready l most wide (length recs) (length o) under n j r ready i m next row (is ∙ share-is i) (rw all-is at at) rest)
 
   -- The first child, and the numbers after it.
-  module _ (m : ℕ) (e : m ≡ pick (ltb 0 x) (b + 1) b) where
+  module _ {m : ℕ} (e : m ≡ pick (ltb 0 x) (b + 1) b) where
     first-left : twoSizes (k + 1) x (b + 1) b ≡ m ∷ from (k + 1) x (b + 1) b 1
     first-left = rw e (from-first k x (b + 1) b)
 
@@ -303,15 +315,22 @@ module _ (l : Layout) (most wide recs o : List ℕ) (depth n j r k b x : ℕ) (g
       pub first-next-fits : Fits w64 (r + m + 1)
       first-next-fits = omega (arith, first-rows, rows-fit long)
 
-  -- The loop, which begins with the image o₁ after the first child.
-  module _ (o₁ : List ℕ) (first next₁ : ℕ) (same : length o₁ ≡ length o) where
+  -- The first child is written: its records, the node after it, and the image then.
+  pub record Begun (o₁ : List ℕ) (first next₁ : ℕ) : Type 0 where
+    pub same : length o₁ ≡ length o
+    pub share : first ≡ pick (ltb 0 x) (b + 1) b
+    pub next : next₁ ≡ j + subtreeNodes l under first
+    pub image : o₁ ≡ stored o (j * l .«node_size») (subtreeImage l recs under first j r)
+
+  -- The loop over the children after it.
+  module _ {o₁ : List ℕ} {first next₁ : ℕ} (begun : Begun o₁ first next₁) where
     abbrev Left : List ℕ → ℕ → ℕ → ℕ → ℕ → Type 0
     Left = KidsLeft l recs o₁ next₁ (r + first + 1) under j r k b x
 
-    pub loop-start : first ≡ pick (ltb 0 x) (b + 1) b → next₁ ≡ j + subtreeNodes l under first → Left o₁ next₁ (r + first + 1) 0 1
-    loop-start e h = kids-start l recs o₁ next₁ (r + first + 1) under j r k b x first e h refl
+    pub loop-start : Left o₁ next₁ (r + first + 1) 0 1
+    loop-start = kids-start l recs o₁ next₁ (r + first + 1) under j r k b x first (begun .share) (begun .next) refl
 
-    module _ (o′ : List ℕ) (next row last i m : ℕ) (inv : Left o′ next row last i) (h : i ≤ k) (e : m ≡ pick (ltb i x) (b + 1) b) where
+    module _ {o′ : List ℕ} {next row last i m : ℕ} (inv : Left o′ next row last i) (h : i ≤ k) (e : m ≡ pick (ltb i x) (b + 1) b) where
       kid-row : row + m ≤ r + n
       kid-row = omega (arith, kid-rows l recs o₁ next₁ (r + first + 1) under j r k b x o′ next row last i inv h m e, rows-all)
 
@@ -319,7 +338,7 @@ module _ (l : Layout) (most wide recs o : List ℕ) (depth n j r k b x : ℕ) (g
       kid-place = omega (arith, kid-nodes l recs o₁ next₁ (r + first + 1) under j r k b x o′ next row last i inv h m e)
 
       pub kid-ready : Ready l most wide (length recs) (length o′) under m next row
-      kid-ready = kid o′ i m next row (inv .long ∙ same) e kid-place kid-row
+      kid-ready = kid o′ i m next row (inv .long ∙ begun .same) e kid-place kid-row
 
       module _ (long : length recs * 1 < 2 ^ 63) where
         pub kid-row-fits : Fits w64 (row + m)
@@ -340,24 +359,33 @@ module _ (l : Layout) (most wide recs o : List ℕ) (depth n j r k b x : ℕ) (g
       end-after end ee = omega arith
 
     -- The root, once the last child is written.
-    module _ (o′ : List ℕ) (next row last i : ℕ) (inv : Left o′ next row last i) (h : k < i)
-        (e : first ≡ pick (ltb 0 x) (b + 1) b) (hn : next₁ ≡ j + subtreeNodes l under first)
-        (ho : o₁ ≡ stored o (j * l .«node_size») (subtreeImage l recs under first j r)) (y : Inner)
-        (large : Made (getD most (under - 1) 0) under first (next₁ - j) (y .large)) (small : Made (getD most (under - 1) 0) under b last (y .small))
-        (is : Root k b x j r (getD wide under 0) y) where
+    pub record Ended (o′ : List ℕ) (next row last i : ℕ) (y : Inner) : Type 0 where
+      pub inv : Left o′ next row last i
+      pub past : k < i
+      pub large : Made (getD most (under - 1) 0) under first (next₁ - j) (y .large)
+      pub small : Made (getD most (under - 1) 0) under b last (y .small)
+      pub numbers : Root k b x j r (getD wide under 0) y
+
+    module _ {o′ : List ℕ} {next row last i : ℕ} {y : Inner} (all : Ended o′ next row last i y) where
+      inv : Left o′ next row last i
+      inv = all .inv
+
+      is : Root k b x j r (getD wide under 0) y
+      is = all .numbers
+
       ended : (o′ ≡ stored o₁ (next₁ * l .«node_size») (images l recs under (from (k + 1) x (b + 1) b 1) next₁ (r + first + 1)))
           × (next ≡ j + sumOf (subtreeNodes l under) (twoSizes (k + 1) x (b + 1) b))
           × (1 ≤ k → last ≡ subtreeNodes l under b)
-      ended = kids-end l recs o₁ next₁ (r + first + 1) under j r k b x o′ next row last i inv h extra-few
+      ended = kids-end l recs o₁ next₁ (r + first + 1) under j r k b x o′ next row last i inv (all .past) extra-few
 
       made : (m size : ℕ) (z : Child) → size ≡ subtreeNodes l under m → Made (getD most (under - 1) 0) under m size z → z ≡ childAt l recs under m
       made m size z q g = child-made l most recs under m size z (λ u s. given .caps u (omega arith)) q g
 
       large-is : y .large ≡ childAt l recs under first
-      large-is = made first (next₁ - j) (y .large) (omega arith) large
+      large-is = made first (next₁ - j) (y .large) (omega (arith, begun .next)) (all .large)
 
       small-is : y .small ≡ childAt l recs under b
-      small-is = made b last (y .small) (ended .2 some-kept) small
+      small-is = made b last (y .small) (ended .2 some-kept) (all .small)
 
       numbers : Numbers l recs under n (ready .thick) y
       numbers =
@@ -365,9 +393,9 @@ module _ (l : Layout) (most wide recs o : List ℕ) (depth n j r k b x : ℕ) (g
             kept = is .kept ∙ k-is;
             base = is .base ∙ b-is;
             extra = is .extra ∙ x-is;
-            large = λ p. let q : first ≡ share (capacities l under) n + 1 = e ∙ (rw (lt-ltb 0 x (rw (is .extra) at p), b-is)) in large-is ∙ ap (childAt l recs under) q;
+            large = λ p. let q : first ≡ share (capacities l under) n + 1 = begun .share ∙ (rw (lt-ltb 0 x (rw (is .extra) at p), b-is)) in large-is ∙ ap (childAt l recs under) q;
             small = small-is ∙ ap (childAt l recs under) b-is;
-            total = is .total ∙ given .widths under (omega arith);
+            total = is .total ∙ given .widths under lower;
           }
 
       nodes-all : subtreeNodes l (suc under) n ≡ sumOf (subtreeNodes l under) (twoSizes (k + 1) x (b + 1) b) + 1
@@ -377,10 +405,10 @@ module _ (l : Layout) (most wide recs o : List ℕ) (depth n j r k b x : ℕ) (g
       next-is = omega (arith, nodes-all, ended .1)
 
       pub root-room : (next + 1) * l .«node_size» ≤ length o′
-      root-room = rw (next-is, inv .long, same) (ready .room)
+      root-room = rw (next-is, inv .long, begun .same) (ready .room)
 
       pub root-next-fits : length o < 2 ^ 64 → Fits w64 (next + 1)
-      root-next-fits s = omega (arith, le-mul-of-pos-right (next + 1) (node-pos l most wide (length recs) (length o) under n j r ready), root-room, inv .long, same)
+      root-next-fits s = omega (arith, le-mul-of-pos-right (next + 1) (node-pos l most wide (length recs) (length o) under n j r ready), root-room, inv .long, begun .same)
 
       pub root-fits : InnerFits l (length recs) y
       unfolding count
@@ -390,7 +418,7 @@ module _ (l : Layout) (most wide recs o : List ℕ) (depth n j r k b x : ℕ) (g
           record {
             size = given .size;
             few = (rw (is .kept) (omega (arith, kept-small)), rw (is .base) base-few);
-            bytes = rw (is .kept, is .total, given .widths under (omega arith), k-is) (omega (arith, rw c at bytes));
+            bytes = rw (is .kept, is .total, given .widths under lower, k-is) (omega (arith, rw c at bytes));
             rows =
                 le-trans (mul-le-mul-right (l .«record_size») (omega (arith, rows-within l recs under n (ready .thick) y numbers, is .row))) (given .rows);
             some = (rw large-is (some-nodes l under first), rw small-is (some-nodes l under b));
@@ -407,9 +435,9 @@ module _ (l : Layout) (most wide recs o : List ℕ) (depth n j r k b x : ℕ) (g
       children-done : o′ ≡ stored o (j * l .«node_size») whole
       unfolding images whole
       children-done =
-          let long = length-subtree l most wide recs (length o) under first j r (first-ready first e) in
+          let long = length-subtree l most wide recs (length o) under first j r (first-ready (begun .share)) in
           ended .0
-          ∙ rw (ho, stored-turn o (j * l .«node_size») (next₁ * l .«node_size») (subtreeImage l recs under first j r) (images l recs under (from (k + 1) x (b + 1) b 1) next₁ (r + first + 1)) (omega (arith, ready .room)) (rw (long, hn) (omega arith)), first-left first e, hn)
+          ∙ rw (begun .image, stored-turn o (j * l .«node_size») (next₁ * l .«node_size») (subtreeImage l recs under first j r) (images l recs under (from (k + 1) x (b + 1) b 1) next₁ (r + first + 1)) (omega (arith, ready .room)) (rw (long, begun .next) (omega arith)), first-left (begun .share), begun .next)
 
       length-whole : length whole ≡ sumOf (subtreeNodes l under) (twoSizes (k + 1) x (b + 1) b) * l .«node_size»
       unfolding whole
@@ -423,9 +451,9 @@ module _ (l : Layout) (most wide recs o : List ℕ) (depth n j r k b x : ℕ) (g
           → (z ≡ stored o (j * l .«node_size») (subtreeImage l recs depth n j r)) × (next + 1 ≡ j + subtreeNodes l depth n)
       root-done z hz =
           let place : next * l .«node_size» ≡ j * l .«node_size» + length whole = rw (length-whole, ended .1) (omega arith) in
-          let all : z ≡ stored o (j * l .«node_size») (subtreeImage l recs (suc under) n j r) =
+          let whole-done : z ≡ stored o (j * l .«node_size») (subtreeImage l recs (suc under) n j r) =
           rw (hz, children-done, stored-turn o (j * l .«node_size») (next * l .«node_size») whole (padded (l .«node_size») (innerBytes l recs y)) (omega (arith, ready .room)) place, image-all) in
-          (all ∙ ap (λ (d : ℕ). stored o (j * l .«node_size») (subtreeImage l recs d n j r)) (sym deeper), next-is ∙ ap (λ (d : ℕ). j + subtreeNodes l d n) (sym deeper))
+          (whole-done ∙ ap (λ (d : ℕ). stored o (j * l .«node_size») (subtreeImage l recs d n j r)) (sym deeper), next-is ∙ ap (λ (d : ℕ). j + subtreeNodes l d n) (sym deeper))
 
 -- `child_of`
 pub made-leaf : (d m size : ℕ) (below : ℕ) (z : Child) → d ≡ 0 → z .records ≡ m → z .total ≡ m → z .nodes ≡ size → Made below d m size z

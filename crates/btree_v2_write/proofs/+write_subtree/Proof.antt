@@ -17,7 +17,7 @@ use mathlib.Core.Path.{refl}
 use Prim.Native.Nat.{_+_, _-_}
 use native.Mathlib.Omega.{arith}
 use borrow.Author.Needs.{needs}
-use Rattle.btree_v2_write.proofs.Subtrees.{leaf-asked, leaf-next-fits, leaf-done, base-few, kept-small, width-small, first-ready, first-row-fits, first-next-fits, KidsLeft, loop-start, kid-ready, kid-row-fits, kid-next-fits, loop-turn, root-fits, root-room, root-next-fits, root-done}
+use Rattle.btree_v2_write.proofs.Subtrees.{Dealt, Begun, Ended, leaf-asked, leaf-next-fits, leaf-done, base-few, kept-small, width-small, first-ready, first-row-fits, first-next-fits, KidsLeft, loop-start, kid-ready, kid-row-fits, kid-next-fits, loop-turn, root-fits, root-room, root-next-fits, root-done}
 
 abbrev μ-write-subtree : Measures 4 write-subtree-kinds.ps ℕ
 μ-write-subtree κs a = a .1 .1 .1 .1 .1 .0
@@ -35,12 +35,52 @@ Inv-loop o₁ l recs most wide depth n j r under k b x first next₁ large row�
 abbrev μ-loop : write-subtree-lts.MeasureT-loop
 μ-loop o₁ l recs most wide depth n j r under k b x first next₁ large row₁ last₁ i₁ o next row last i = k + 1 - i
 
+-- What is known at the places of the cycle: after the records were dealt, and after the first child.
+module _ (t : ℕ) where
+  abbrev claims : write-subtree-lts.Claims
+  claims =
+      (write-leaf-reads.Asked, write-leaf-reads.Learnt, deal-reads.Asked, deal-reads.Learnt, share-reads.Asked, share-reads.Learnt, write-subtree-below t, write-subtree.Post, child-of-reads.Asked, child-of-reads.Learnt, write-internal-reads.Asked, write-internal-reads.Learnt)
+
+  abbrev AfterDeal : Type 0
+  AfterDeal = write-subtree-lts.After-deal claims (write-subtree-at t) write-subtree.Post Inv-loop μ-loop
+
+  abbrev DealtAt : AfterDeal → Type 0
+  DealtAt c =
+      let a = c .before .before .before .before .before .args in
+      let y = c .deal .result in
+      Dealt (a .layout) (a .most .now) (a .wide .now) (a .records .now) (a .image .now) (a .depth) (a .n) (a .j) (a .r) (y .kept) (y .base) (y .extra)
+
+  dealt : (c : AfterDeal) → DealtAt c
+  dealt c =
+      record {
+        given = c .before .before .before .before .before .pre .1;
+        pos = c .before .before .if1 .left;
+        kept = c .deal .ensures .0;
+        base = c .deal .ensures .1;
+        extra = c .deal .ensures .2;
+      }
+
+  abbrev AfterFirst : Type 0
+  AfterFirst = write-subtree-lts.After-write-subtree claims (write-subtree-at t) write-subtree.Post Inv-loop μ-loop
+
+  abbrev BegunAt : AfterFirst → Type 0
+  BegunAt c = Begun (dealt (c .before .before .before)) (c .write-subtree .last .0) (c .before .before .share .result) (c .write-subtree .result)
+
+  begun : (c : AfterFirst) → BegunAt c
+  begun c =
+      record {
+        same = c .write-subtree .kept .0;
+        share = c .before .before .share .ensures;
+        next = c .write-subtree .ensures .1;
+        image = c .write-subtree .ensures .0;
+      }
+
 pub +write-subtree-spec : {M : Type 1} → statement M
 +write-subtree-spec =
     close
     μ-write-subtree
     (λ t. write-subtree-lts.spec
-    (write-leaf-reads.Asked, write-leaf-reads.Learnt, deal-reads.Asked, deal-reads.Learnt, share-reads.Asked, share-reads.Learnt, write-subtree-below t, write-subtree.Post, child-of-reads.Asked, child-of-reads.Learnt, write-internal-reads.Asked, write-internal-reads.Learnt)
+    (claims t)
     (write-subtree-at t)
     write-subtree.Post
     Inv-loop
@@ -53,25 +93,25 @@ pub +write-subtree-spec : {M : Type 1} → statement M
     (λ c. search needs)
     (λ c. search needs)
     (λ c κs. search needs)
-    (λ c κs. base-few _ _ _ (c .before .before .before .before .before .args .records .now) (c .before .before .before .before .before .args .image .now) _ _ _ _ _ _ _ (c .before .before .before .before .before .pre .1) (c .before .before .if1 .left) (c .deal .ensures .0) (c .deal .ensures .1) (c .deal .ensures .2))
-    (λ c κs. (omega (arith, c .before .before .before .before .if1 .left, c .before .before .before .before .before .before .before .pre .0), first-ready _ _ _ (c .before .before .before .before .before .before .before .args .records .now) (c .before .before .before .before .before .before .before .args .image .now) _ _ _ _ _ _ _ (c .before .before .before .before .before .before .before .pre .1) (c .before .before .before .before .if1 .left) (c .before .before .deal .ensures .0) (c .before .before .deal .ensures .1) (c .before .before .deal .ensures .2) _ (c .before .share .ensures)))
+    (λ c κs. base-few (dealt t c))
+    (λ c κs. (omega (arith, c .before .before .before .before .if1 .left, c .before .before .before .before .before .before .before .pre .0), first-ready (dealt t (c .before .before)) (c .before .share .ensures)))
     (λ c. omega (arith, c .before .before .write-subtree .ensures .1))
     (λ c κs. omega (arith, c .before .before .before .before .before .before .before .before .before .before .pre .1 .low))
-    (λ c. first-row-fits _ _ _ (c .before .before .before .before .before .before .before .before .before .before .before .args .records .now) (c .before .before .before .before .before .before .before .before .before .before .before .args .image .now) _ _ _ _ _ _ _ (c .before .before .before .before .before .before .before .before .before .before .before .pre .1) (c .before .before .before .before .before .before .before .before .if1 .left) (c .before .before .before .before .before .before .deal .ensures .0) (c .before .before .before .before .before .before .deal .ensures .1) (c .before .before .before .before .before .before .deal .ensures .2) _ (c .before .before .before .before .before .share .ensures) (c .before .before .before .before .before .before .before .before .before .before .before .good .1 .1 .0 .1))
-    (λ c. first-next-fits _ _ _ (c .before .before .before .before .before .before .before .before .before .before .before .args .records .now) (c .before .before .before .before .before .before .before .before .before .before .before .args .image .now) _ _ _ _ _ _ _ (c .before .before .before .before .before .before .before .before .before .before .before .pre .1) (c .before .before .before .before .before .before .before .before .if1 .left) (c .before .before .before .before .before .before .deal .ensures .0) (c .before .before .before .before .before .before .deal .ensures .1) (c .before .before .before .before .before .before .deal .ensures .2) _ (c .before .before .before .before .before .share .ensures) (c .before .before .before .before .before .before .before .before .before .before .before .good .1 .1 .0 .1))
-    (λ c. loop-start _ _ _ (c .before .before .before .before .before .before .before .before .before .before .before .args .records .now) (c .before .before .before .before .before .before .before .before .before .before .before .args .image .now) _ _ _ _ _ _ _ (c .before .before .before .before .before .before .before .before .before .before .before .pre .1) (c .before .before .before .before .before .before .before .before .if1 .left) (c .before .before .before .before .before .before .deal .ensures .0) (c .before .before .before .before .before .before .deal .ensures .1) (c .before .before .before .before .before .before .deal .ensures .2) _ _ _ (c .before .before .before .write-subtree .kept .0) (c .before .before .before .before .before .share .ensures) (c .before .before .before .write-subtree .ensures .1))
-    (λ c κs. base-few _ _ _ (c .before .before .before .before .before .before .before .before .before .before .before .before .before .args .records .now) (c .before .before .before .before .before .before .before .before .before .before .before .before .before .args .image .now) _ _ _ _ _ _ _ (c .before .before .before .before .before .before .before .before .before .before .before .before .before .pre .1) (c .before .before .before .before .before .before .before .before .before .before .if1 .left) (c .before .before .before .before .before .before .before .before .deal .ensures .0) (c .before .before .before .before .before .before .before .before .deal .ensures .1) (c .before .before .before .before .before .before .before .before .deal .ensures .2))
-    (λ c κs. (omega (arith, c .before .before .before .before .before .before .before .before .before .before .before .before .if1 .left, c .before .before .before .before .before .before .before .before .before .before .before .before .before .before .before .pre .0), kid-ready _ _ _ (c .before .before .before .before .before .before .before .before .before .before .before .before .before .before .before .args .records .now) (c .before .before .before .before .before .before .before .before .before .before .before .before .before .before .before .args .image .now) _ _ _ _ _ _ _ (c .before .before .before .before .before .before .before .before .before .before .before .before .before .before .before .pre .1) (c .before .before .before .before .before .before .before .before .before .before .before .before .if1 .left) (c .before .before .before .before .before .before .before .before .before .before .deal .ensures .0) (c .before .before .before .before .before .before .before .before .before .before .deal .ensures .1) (c .before .before .before .before .before .before .before .before .before .before .deal .ensures .2) _ _ _ (c .before .before .before .before .before .before .before .write-subtree .kept .0) _ _ _ _ _ _ (c .before .before .before .loop .inv) (c .before .before .loop-test .taken) (c .before .share2 .ensures)))
+    (λ c. first-row-fits (dealt t (c .before .before .before .before .before .before)) (c .before .before .before .before .before .share .ensures) (c .before .before .before .before .before .before .before .before .before .before .before .good .1 .1 .0 .1))
+    (λ c. first-next-fits (dealt t (c .before .before .before .before .before .before)) (c .before .before .before .before .before .share .ensures) (c .before .before .before .before .before .before .before .before .before .before .before .good .1 .1 .0 .1))
+    (λ c. loop-start (dealt t (c .before .before .before .before .before .before)) (begun t (c .before .before .before)))
+    (λ c κs. base-few (dealt t (c .before .before .before .before .before .before .before .before)))
+    (λ c κs. (omega (arith, c .before .before .before .before .before .before .before .before .before .before .before .before .if1 .left, c .before .before .before .before .before .before .before .before .before .before .before .before .before .before .before .pre .0), kid-ready (dealt t (c .before .before .before .before .before .before .before .before .before .before)) (begun t (c .before .before .before .before .before .before .before)) (c .before .before .before .loop .inv) (c .before .before .loop-test .taken) (c .before .share2 .ensures)))
     (λ c. omega (arith, c .before .before .write-subtree2 .ensures .1))
-    (λ c. kid-row-fits _ _ _ (c .before .before .before .before .before .before .before .before .before .before .before .before .before .before .before .before .before .before .args .records .now) (c .before .before .before .before .before .before .before .before .before .before .before .before .before .before .before .before .before .before .args .image .now) _ _ _ _ _ _ _ (c .before .before .before .before .before .before .before .before .before .before .before .before .before .before .before .before .before .before .pre .1) (c .before .before .before .before .before .before .before .before .before .before .before .before .before .before .before .if1 .left) (c .before .before .before .before .before .before .before .before .before .before .before .before .before .deal .ensures .0) (c .before .before .before .before .before .before .before .before .before .before .before .before .before .deal .ensures .1) (c .before .before .before .before .before .before .before .before .before .before .before .before .before .deal .ensures .2) _ _ _ (c .before .before .before .before .before .before .before .before .before .before .write-subtree .kept .0) _ _ _ _ _ _ (c .before .before .before .before .before .before .loop .inv) (c .before .before .before .before .before .loop-test .taken) (c .before .before .before .before .share2 .ensures) (c .before .before .before .before .before .before .before .before .before .before .before .before .before .before .before .before .before .before .good .1 .1 .0 .1))
-    (λ c. kid-next-fits _ _ _ (c .before .before .before .before .before .before .before .before .before .before .before .before .before .before .before .before .before .before .args .records .now) (c .before .before .before .before .before .before .before .before .before .before .before .before .before .before .before .before .before .before .args .image .now) _ _ _ _ _ _ _ (c .before .before .before .before .before .before .before .before .before .before .before .before .before .before .before .before .before .before .pre .1) (c .before .before .before .before .before .before .before .before .before .before .before .before .before .before .before .if1 .left) (c .before .before .before .before .before .before .before .before .before .before .before .before .before .deal .ensures .0) (c .before .before .before .before .before .before .before .before .before .before .before .before .before .deal .ensures .1) (c .before .before .before .before .before .before .before .before .before .before .before .before .before .deal .ensures .2) _ _ _ (c .before .before .before .before .before .before .before .before .before .before .write-subtree .kept .0) _ _ _ _ _ _ (c .before .before .before .before .before .before .loop .inv) (c .before .before .before .before .before .loop-test .taken) (c .before .before .before .before .share2 .ensures) (c .before .before .before .before .before .before .before .before .before .before .before .before .before .before .before .before .before .before .good .1 .1 .0 .1))
-    (λ c. omega (arith, c .before .before .before .before .before .loop-test .taken, kept-small _ _ _ (c .before .before .before .before .before .before .before .before .before .before .before .before .before .before .before .before .before .before .args .records .now) (c .before .before .before .before .before .before .before .before .before .before .before .before .before .before .before .before .before .before .args .image .now) _ _ _ _ _ _ _ (c .before .before .before .before .before .before .before .before .before .before .before .before .before .before .before .before .before .before .pre .1) (c .before .before .before .before .before .before .before .before .before .before .before .before .before .before .before .if1 .left) (c .before .before .before .before .before .before .before .before .before .before .before .before .before .deal .ensures .0) (c .before .before .before .before .before .before .before .before .before .before .before .before .before .deal .ensures .1) (c .before .before .before .before .before .before .before .before .before .before .before .before .before .deal .ensures .2)))
+    (λ c. kid-row-fits (dealt t (c .before .before .before .before .before .before .before .before .before .before .before .before .before)) (begun t (c .before .before .before .before .before .before .before .before .before .before)) (c .before .before .before .before .before .before .loop .inv) (c .before .before .before .before .before .loop-test .taken) (c .before .before .before .before .share2 .ensures) (c .before .before .before .before .before .before .before .before .before .before .before .before .before .before .before .before .before .before .good .1 .1 .0 .1))
+    (λ c. kid-next-fits (dealt t (c .before .before .before .before .before .before .before .before .before .before .before .before .before)) (begun t (c .before .before .before .before .before .before .before .before .before .before)) (c .before .before .before .before .before .before .loop .inv) (c .before .before .before .before .before .loop-test .taken) (c .before .before .before .before .share2 .ensures) (c .before .before .before .before .before .before .before .before .before .before .before .before .before .before .before .before .before .before .good .1 .1 .0 .1))
+    (λ c. omega (arith, c .before .before .before .before .before .loop-test .taken, kept-small (dealt t (c .before .before .before .before .before .before .before .before .before .before .before .before .before))))
     (λ c. omega (arith, c .before .before .before .before .before .loop-test .taken))
-    (λ c. loop-turn _ _ _ (c .before .before .before .before .before .before .before .before .before .before .before .before .before .before .before .before .before .before .args .records .now) (c .before .before .before .before .before .before .before .before .before .before .before .before .before .before .before .before .before .before .args .image .now) _ _ _ _ _ _ _ (c .before .before .before .before .before .before .before .before .before .before .before .before .before .before .before .before .before .before .pre .1) (c .before .before .before .before .before .before .before .before .before .before .before .before .before .before .before .if1 .left) (c .before .before .before .before .before .before .before .before .before .before .before .before .before .deal .ensures .0) (c .before .before .before .before .before .before .before .before .before .before .before .before .before .deal .ensures .1) (c .before .before .before .before .before .before .before .before .before .before .before .before .before .deal .ensures .2) _ _ _ (c .before .before .before .before .before .before .before .before .before .before .write-subtree .kept .0) _ _ _ _ _ _ (c .before .before .before .before .before .before .loop .inv) (c .before .before .before .before .before .loop-test .taken) (c .before .before .before .before .share2 .ensures) _ _ (c .before .before .write-subtree2 .ensures .0) (c .before .before .write-subtree2 .ensures .1))
+    (λ c. loop-turn (dealt t (c .before .before .before .before .before .before .before .before .before .before .before .before .before)) (begun t (c .before .before .before .before .before .before .before .before .before .before)) (c .before .before .before .before .before .before .loop .inv) (c .before .before .before .before .before .loop-test .taken) (c .before .before .before .before .share2 .ensures) _ _ (c .before .before .write-subtree2 .ensures .0) (c .before .before .write-subtree2 .ensures .1))
     (λ c κs. omega (arith, c .before .before .before .before .before .before .before .before .before .before .before .before .before .pre .1 .low))
     (λ c. omega (arith, c .before .before .before .before .before .before .before .before .before .before .before .before .before .before .pre .1 .low))
-    (λ c. width-small _ _ _ (c .before .before .before .before .before .before .before .before .before .before .before .before .before .before .before .args .records .now) (c .before .before .before .before .before .before .before .before .before .before .before .before .before .before .before .args .image .now) _ _ _ _ _ _ _ (c .before .before .before .before .before .before .before .before .before .before .before .before .before .before .before .pre .1) (c .before .before .before .before .before .before .before .before .before .before .before .before .if1 .left) (c .before .before .before .before .before .before .before .before .before .before .deal .ensures .0) (c .before .before .before .before .before .before .before .before .before .before .deal .ensures .1) (c .before .before .before .before .before .before .before .before .before .before .deal .ensures .2))
-    (λ c κs. (root-fits _ _ _ (c .before .before .before .before .before .before .before .before .before .before .before .before .before .before .before .before .args .records .now) (c .before .before .before .before .before .before .before .before .before .before .before .before .before .before .before .before .args .image .now) _ _ _ _ _ _ _ (c .before .before .before .before .before .before .before .before .before .before .before .before .before .before .before .before .pre .1) (c .before .before .before .before .before .before .before .before .before .before .before .before .before .if1 .left) (c .before .before .before .before .before .before .before .before .before .before .before .deal .ensures .0) (c .before .before .before .before .before .before .before .before .before .before .before .deal .ensures .1) (c .before .before .before .before .before .before .before .before .before .before .before .deal .ensures .2) _ _ _ (c .before .before .before .before .before .before .before .before .write-subtree .kept .0) _ _ _ _ _ (c .before .before .before .before .loop .inv) (c .before .before .before .loop-test .left) (c .before .before .before .before .before .before .before .before .before .before .share .ensures) (c .before .before .before .before .before .before .before .before .write-subtree .ensures .1) (c .before .before .before .before .before .before .before .before .write-subtree .ensures .0) _ (c .before .before .before .before .before .child-of .ensures) (c .before .before .child-of2 .ensures) (record { kept = refl; base = refl; extra = refl; node = refl; row = refl; total = refl }), root-room _ _ _ (c .before .before .before .before .before .before .before .before .before .before .before .before .before .before .before .before .args .records .now) (c .before .before .before .before .before .before .before .before .before .before .before .before .before .before .before .before .args .image .now) _ _ _ _ _ _ _ (c .before .before .before .before .before .before .before .before .before .before .before .before .before .before .before .before .pre .1) (c .before .before .before .before .before .before .before .before .before .before .before .before .before .if1 .left) (c .before .before .before .before .before .before .before .before .before .before .before .deal .ensures .0) (c .before .before .before .before .before .before .before .before .before .before .before .deal .ensures .1) (c .before .before .before .before .before .before .before .before .before .before .before .deal .ensures .2) _ _ _ (c .before .before .before .before .before .before .before .before .write-subtree .kept .0) _ _ _ _ _ (c .before .before .before .before .loop .inv) (c .before .before .before .loop-test .left) (c .before .before .before .before .before .before .before .before .before .before .share .ensures) (c .before .before .before .before .before .before .before .before .write-subtree .ensures .1) (c .before .before .before .before .before .before .before .before .write-subtree .ensures .0) _ (c .before .before .before .before .before .child-of .ensures) (c .before .before .child-of2 .ensures) (record { kept = refl; base = refl; extra = refl; node = refl; row = refl; total = refl })))
-    (λ c. root-next-fits _ _ _ (c .before .before .before .before .before .before .before .before .before .before .before .before .before .before .before .before .before .before .before .args .records .now) (c .before .before .before .before .before .before .before .before .before .before .before .before .before .before .before .before .before .before .before .args .image .now) _ _ _ _ _ _ _ (c .before .before .before .before .before .before .before .before .before .before .before .before .before .before .before .before .before .before .before .pre .1) (c .before .before .before .before .before .before .before .before .before .before .before .before .before .before .before .before .if1 .left) (c .before .before .before .before .before .before .before .before .before .before .before .before .before .before .deal .ensures .0) (c .before .before .before .before .before .before .before .before .before .before .before .before .before .before .deal .ensures .1) (c .before .before .before .before .before .before .before .before .before .before .before .before .before .before .deal .ensures .2) _ _ _ (c .before .before .before .before .before .before .before .before .before .before .before .write-subtree .kept .0) _ _ _ _ _ (c .before .before .before .before .before .before .before .loop .inv) (c .before .before .before .before .before .before .loop-test .left) (c .before .before .before .before .before .before .before .before .before .before .before .before .before .share .ensures) (c .before .before .before .before .before .before .before .before .before .before .before .write-subtree .ensures .1) (c .before .before .before .before .before .before .before .before .before .before .before .write-subtree .ensures .0) _ (c .before .before .before .before .before .before .before .before .child-of .ensures) (c .before .before .before .before .before .child-of2 .ensures) (record { kept = refl; base = refl; extra = refl; node = refl; row = refl; total = refl }) (c .before .before .before .before .before .before .before .before .before .before .before .before .before .before .before .before .before .before .before .good .0 .0))
+    (λ c. width-small (dealt t (c .before .before .before .before .before .before .before .before .before .before)))
+    (λ c κs. (root-fits (dealt t (c .before .before .before .before .before .before .before .before .before .before .before)) (begun t (c .before .before .before .before .before .before .before .before)) (record { inv = c .before .before .before .before .loop .inv; past = c .before .before .before .loop-test .left; large = c .before .before .before .before .before .child-of .ensures; small = c .before .before .child-of2 .ensures; numbers = record { kept = refl; base = refl; extra = refl; node = refl; row = refl; total = refl } }), root-room (dealt t (c .before .before .before .before .before .before .before .before .before .before .before)) (begun t (c .before .before .before .before .before .before .before .before)) (record { inv = c .before .before .before .before .loop .inv; past = c .before .before .before .loop-test .left; large = c .before .before .before .before .before .child-of .ensures; small = c .before .before .child-of2 .ensures; numbers = record { kept = refl; base = refl; extra = refl; node = refl; row = refl; total = refl } })))
+    (λ c. root-next-fits (dealt t (c .before .before .before .before .before .before .before .before .before .before .before .before .before .before)) (begun t (c .before .before .before .before .before .before .before .before .before .before .before)) (record { inv = c .before .before .before .before .before .before .before .loop .inv; past = c .before .before .before .before .before .before .loop-test .left; large = c .before .before .before .before .before .before .before .before .child-of .ensures; small = c .before .before .before .before .before .child-of2 .ensures; numbers = record { kept = refl; base = refl; extra = refl; node = refl; row = refl; total = refl } }) (c .before .before .before .before .before .before .before .before .before .before .before .before .before .before .before .before .before .before .before .good .0 .0))
     (λ c. search needs)
-    (λ c. root-done _ _ _ (c .before .before .before .before .before .before .before .before .before .before .before .before .before .before .before .before .before .before .before .args .records .now) (c .before .before .before .before .before .before .before .before .before .before .before .before .before .before .before .before .before .before .before .args .image .now) _ _ _ _ _ _ _ (c .before .before .before .before .before .before .before .before .before .before .before .before .before .before .before .before .before .before .before .pre .1) (c .before .before .before .before .before .before .before .before .before .before .before .before .before .before .before .before .if1 .left) (c .before .before .before .before .before .before .before .before .before .before .before .before .before .before .deal .ensures .0) (c .before .before .before .before .before .before .before .before .before .before .before .before .before .before .deal .ensures .1) (c .before .before .before .before .before .before .before .before .before .before .before .before .before .before .deal .ensures .2) _ _ _ (c .before .before .before .before .before .before .before .before .before .before .before .write-subtree .kept .0) _ _ _ _ _ (c .before .before .before .before .before .before .before .loop .inv) (c .before .before .before .before .before .before .loop-test .left) (c .before .before .before .before .before .before .before .before .before .before .before .before .before .share .ensures) (c .before .before .before .before .before .before .before .before .before .before .before .write-subtree .ensures .1) (c .before .before .before .before .before .before .before .before .before .before .before .write-subtree .ensures .0) _ (c .before .before .before .before .before .before .before .before .child-of .ensures) (c .before .before .before .before .before .child-of2 .ensures) (record { kept = refl; base = refl; extra = refl; node = refl; row = refl; total = refl }) _ (c .before .before .write-internal .ensures)))
+    (λ c. root-done (dealt t (c .before .before .before .before .before .before .before .before .before .before .before .before .before .before)) (begun t (c .before .before .before .before .before .before .before .before .before .before .before)) (record { inv = c .before .before .before .before .before .before .before .loop .inv; past = c .before .before .before .before .before .before .loop-test .left; large = c .before .before .before .before .before .before .before .before .child-of .ensures; small = c .before .before .before .before .before .child-of2 .ensures; numbers = record { kept = refl; base = refl; extra = refl; node = refl; row = refl; total = refl } }) _ (c .before .before .write-internal .ensures)))

@@ -21,6 +21,6 @@ clear-spec =
     (λ c. search needs)
     (λ c. search needs)
     (λ c. search needs)
-    (λ c. search cleared-turn)
+    (λ c. cleared-turn _ _ _ (c .before .loop .inv) (c .loop-test .taken))
     (λ c. search needs)
-    (λ c. search cleared-end))
+    (λ c. cleared-end _ _ _ (c .before .loop .inv) (c .loop-test .left)))

@@ -22,6 +22,6 @@ copy-spec =
     (λ c. search needs)
     (λ c. search needs)
     (λ c. search needs)
-    (λ c. search copied-turn)
+    (λ c. copied-turn _ _ (c .before .before .before .pre) _ _ (c .before .before .loop .inv) (c .before .loop-test .taken))
     (λ c. search needs)
-    (λ c. search copied-end))
+    (λ c. copied-end _ _ (c .before .before .pre) _ _ (c .before .loop .inv) (c .loop-test .left)))

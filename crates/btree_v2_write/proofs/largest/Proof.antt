@@ -7,6 +7,6 @@ pub largest-spec : {M : Type 1} → statement M
 largest-spec =
     tie.close
     (tie.spec
-    (λ c. search largest-2)
-    (λ c. search largest-4)
-    (λ c. search largest-8))
+    (λ c. largest-2 _ (c .if1 .taken))
+    (λ c. largest-4 _ (c .if2 .taken))
+    (λ c. largest-8 _ (c .before .before .pre) (c .before .if1 .left) (c .if2 .left)))

@@ -10,4 +10,4 @@ put-number-spec =
     (tie.spec
     (λ c κs. search needs)
     (λ c. search needs)
-    (λ c. number-put _ _ _ _ _ _ (c .before .before .before .before .before .pre) (c .before .before .write-le .ensures .0) (c .before .before .write-le .ensures .1)))
+    (λ c. number-put _ _ (c .before .before .before .before .before .args .at) (c .before .before .before .before .before .args .x) (c .before .before .before .before .before .args .width) _ (c .before .before .before .before .before .pre) (c .before .before .write-le .ensures .0) (c .before .before .write-le .ensures .1)))

@@ -20,4 +20,4 @@ seal-spec =
     (λ c. search needs)
     (λ c κs. search needs)
     (λ c. search needs)
-    (λ c. search sealed))
+    (λ c. sealed (c .before .before .before .before .before .before .before .before .before .before .before .args .node .now) _ _ (c .before .before .before .before .before .before .before .before .before .before .before .args .used) (c .before .before .before .before .before .before .before .before .before .before .before .args .node-size) _ _ (c .before .before .before .before .before .before .before .before .before .before .before .pre .0) (c .before .before .before .before .before .before .before .before .before .before .before .pre .1) (c .before .before .before .before .before .before .before .before .jenkins-lookup3 .ensures) (c .before .before .before .before .before .before .put-number .ensures .0) (c .before .before .before .before .before .before .put-number .ensures .1) (c .before .before .clear .ensures)))
