@@ -2,9 +2,24 @@
 // A part of the format has two modules here: NAME_answers holds the list, NAME_replay runs it and returns its tally.
 mod checksum_answers;
 mod checksum_replay;
+mod collect_answers;
+mod collect_replay;
+mod header_answers;
+mod header_replay;
+mod image_answers;
+mod image_replay;
+mod plan_answers;
+mod plan_replay;
+mod rows;
 mod tally;
 
 fn main() {
     checksum_replay::published().print(b"checksum, published values");
     checksum_replay::stored().print(b"checksum, stored answers");
+    plan_replay::stored().print(b"plan, stored answers");
+    image_replay::stored().print(b"image, stored answers");
+    image_replay::limits().print(b"image, limits");
+    header_replay::stored().print(b"header, stored answers");
+    collect_replay::stored().print(b"collect, stored answers");
+    collect_replay::ends().print(b"collect, ends of a leaf");
 }

@@ -1,0 +1,152 @@
+// The stored trees, good and damaged, run through `btree_v2::collect::collect_btree_v2_records`, and a leaf without its checksum; each answer
+// is counted once.
+ghost use mathlib.Core.Path.{_≡_};
+ghost use Prim.Native.Nat.{_+_, _≤_, _<_};
+ghost use lib.ListN.{length};
+use crate::collect_answers::COLLECT_BYTES;
+use crate::collect_answers::COLLECT_ROWS;
+use crate::rows;
+use crate::rows::MARK;
+use crate::tally::Tally;
+use btree_v2::BTreeV2Header;
+use btree_v2::Collected;
+use btree_v2::Verdict;
+use btree_v2::collect;
+use refusal::Told;
+
+// The three numbers of a verdict.
+fn told(verdict: Verdict) -> Told {
+    match verdict {
+        Verdict::Accepted => Told {
+            number: 0,
+            first: 0,
+            second: 0,
+        },
+        Verdict::Refused(cause) => cause.told(),
+    }
+}
+
+// The seven numbers of the answer.
+fn numbers(collected: Collected) -> [u64; 7]
+    ensures { λ r. ⌜ 7 ≡ length r ⌝ }
+{
+    let verdict = collected.verdict;
+    let told = told(verdict);
+    let tally = collected.tally;
+    [
+        told.number,
+        told.first,
+        told.second,
+        tally.records,
+        tally.leaves,
+        tally.internals,
+        tally.inner,
+    ]
+}
+
+// The header of a row.
+fn header(list: &[u64; 459], row: usize) -> BTreeV2Header
+    requires { ⌜ row < 27 ⌝ }
+{
+    let at = 17 * row;
+    BTreeV2Header {
+        tree_type: rows::byte(list[at + 1]),
+        node_size: rows::number32(list[at + 2]),
+        record_size: rows::number16(list[at + 3]),
+        depth: rows::number16(list[at + 4]),
+        root_node_address: list[at + 5],
+        num_records_in_root: rows::number16(list[at + 6]),
+        total_records: list[at + 7],
+    }
+}
+
+// Whether collecting the tree of a row from this file has its seven numbers and leaves the bytes that are due in the output.
+fn leaves(list: &[u64; 459], row: usize, file: &[u8], output: &mut [u8], due: &[u8]) -> bool
+    requires { ⌜ row < 27 ⌝ }
+{
+    let at = 17 * row;
+    let offset_size = rows::byte(list[at + 8]);
+    let collected = collect::collect_btree_v2_records(file, header(list, row), offset_size, output);
+    let found = numbers(collected);
+    if !rows::stand_at(list, at + 10, &found) {
+        return false;
+    }
+    check::same(output, due)
+}
+
+// The same for the stored bytes: those from `at` to `middle` are the file, those from there to `end` are due in the output.
+fn agrees(
+    list: &[u64; 459],
+    row: usize,
+    bytes: &[u8; 3647],
+    at: usize,
+    middle: usize,
+    end: usize,
+) -> bool
+    requires { ⌜ (row < 27) × (at ≤ middle) × (middle ≤ end) × (end ≤ 3647) × (end ≤ middle + 512) ⌝ }
+{
+    let mut output = [MARK; 512];
+    let n = end - middle;
+    let all = &bytes[..];
+    leaves(
+        list,
+        row,
+        &all[at..middle],
+        &mut output[..n],
+        &all[middle..end],
+    )
+}
+
+// The stored answers.
+pub(crate) fn stored() -> Tally
+    ensures { λ r. ⌜ r .agreed + r .differed ≡ 27 ⌝ }
+{
+    let list = COLLECT_ROWS;
+    let bytes = COLLECT_BYTES;
+    let mut tally = Tally::new();
+    let mut at = 0;
+    for row in 0..27 {
+        let middle = rows::end(at, 3647, 1024, list[17 * row]);
+        let end = rows::end(middle, 3647, 512, list[17 * row + 9]);
+        tally = tally.with(agrees(&list, row, &bytes, at, middle, end));
+        at = end;
+    }
+    tally
+}
+
+// Whether collecting from a file that is one leaf of one record of 8 bytes has these numbers and this output.
+fn leaf(file: &[u8], due: [u64; 7], record: &[u8]) -> bool {
+    let header = BTreeV2Header {
+        tree_type: 5,
+        node_size: 40,
+        record_size: 8,
+        depth: 0,
+        root_node_address: 0,
+        num_records_in_root: 1,
+        total_records: 1,
+    };
+    let mut output = [MARK; 8];
+    let collected = collect::collect_btree_v2_records(file, header, 8, &mut output);
+    let found = numbers(collected);
+    if !rows::stand_at(&due, 0, &found) {
+        return false;
+    }
+    check::same(&output, record)
+}
+
+// A leaf whose file ends 3 bytes after its records is accepted unchecked; a byte more, and its checksum differs.
+pub(crate) fn ends() -> Tally
+    ensures { λ r. ⌜ r .agreed + r .differed ≡ 2 ⌝ }
+{
+    let short = leaf(
+        b"BTLF\x00\x05record 0\xff\xff\xff",
+        [0, 0, 0, 1, 1, 0, 0],
+        b"record 0",
+    );
+    let whole = leaf(
+        b"BTLF\x00\x05record 0\xff\xff\xff\xff",
+        [6, 0xffffffff, 0x51d3ac40, 0, 0, 0, 0],
+        b"\xee\xee\xee\xee\xee\xee\xee\xee",
+    );
+    Tally::new().with(short).with(whole)
+}

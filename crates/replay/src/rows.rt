@@ -1,0 +1,90 @@
+// The numbers of a stored row, and how they are held against those that a call gives.
+ghost use mathlib.Core.Path.{_≡_};
+ghost use mathlib.Core.Bool.{true};
+ghost use Prim.Native.Nat.{ℕ, _+_, _≤_, _<_};
+ghost use lib.ListN.{length, getD};
+use plan::PlanAnswer;
+use refusal::Refusal;
+
+// Every byte of a lent output before the call.
+pub(crate) const MARK: u8 = 238;
+
+// A stored number as a byte. None of these three changes a number that is in the lists.
+pub(crate) fn byte(number: u64) -> u8 {
+    (number % 256) as u8
+}
+
+pub(crate) fn number16(number: u64) -> u16 {
+    (number % 65536) as u16
+}
+
+pub(crate) fn number32(number: u64) -> u32 {
+    (number % 4294967296) as u32
+}
+
+// A stored length, at most that of the array in use.
+pub(crate) fn at_most(most: usize, number: u64) -> usize
+    requires { ⌜ most < 4294967296 ⌝ }
+    ensures { λ r. ⌜ r ≤ most ⌝ }
+{
+    if most as u64 <= number {
+        return most;
+    }
+    number as usize
+}
+
+// Where the part that begins at `at` of `all` bytes and has a stored length, at most `most`, ends.
+pub(crate) fn end(at: usize, all: usize, most: usize, number: u64) -> usize
+    requires { ⌜ (at ≤ all) × (all < 65536) × (most < 65536) ⌝ }
+    ensures { λ r. ⌜ (at ≤ r) × (r ≤ all) × (r ≤ at + most) ⌝ }
+{
+    let length = at_most(most, number);
+    if all - at < length {
+        return all;
+    }
+    at + length
+}
+
+// Whether the numbers stand in the list from `at` on.
+pub(crate) fn stand_at(list: &[u64], at: usize, numbers: &[u64]) -> bool
+    requires { ⌜ at + length (now numbers) ≤ length (now list) ⌝ }
+    ensures { λ r. ⌜ (r ≡ true → (k : ℕ) → k < length (now (numbers .entry)) → getD (now (list .entry)) (at + k) 0 ≡ getD (now (numbers .entry)) k 0) ⌝ }
+{
+    let mut i = 0;
+    while i < numbers.len() {
+        if list[at + i] != numbers[i] {
+            return false;
+        }
+        i += 1;
+    }
+    true
+}
+
+// Whether these are the five numbers of an answer.
+pub(crate) fn are(numbers: [u64; 5], due: [u64; 5]) -> bool {
+    stand_at(&due, 0, &numbers)
+}
+
+// A refusal's five numbers.
+fn refused(cause: Refusal) -> [u64; 5]
+    ensures { λ r. ⌜ 5 ≡ length r ⌝ }
+{
+    let told = cause.told();
+    [told.number, told.first, told.second, 0, 0]
+}
+
+// The five numbers of the answer of a plan or a write.
+pub(crate) fn of_plan(answer: PlanAnswer) -> [u64; 5]
+    ensures { λ r. ⌜ 5 ≡ length r ⌝ }
+{
+    match answer {
+        PlanAnswer::Planned(plan) => [
+            0,
+            plan.depth as u64,
+            plan.nodes,
+            plan.leaves,
+            plan.image_size,
+        ],
+        PlanAnswer::Refused(cause) => refused(cause),
+    }
+}
