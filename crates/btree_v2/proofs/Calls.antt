@@ -1,22 +1,20 @@
 -- The whole call: nothing to read, its two refusals, and the walk from the root on.
 use mathlib.Core.Path.{_≡_, refl, sym, ap, _∙_}
 use mathlib.Core.List.{List, _++_}
-use Prim.Native.Nat.{ℕ, _+_, _*_, _^_, _≤_, _<_, zero-le}
+use Prim.Native.Nat.{ℕ, _^_, _≤_, _<_, zero-le}
 use native.Mathlib.Nat.{zero-mul}
 use native.Mathlib.Omega.{arith}
 use lib.Dec.{leb}
-use lib.ListN.{length, getD}
 use borrow.Author.Tests.{le-leb}
-use Rattle.fields.specs.Numbers.{pick, held}
+use Rattle.fields.specs.Numbers.{pick}
 use Rattle.fields.proofs.Numbers.{held-small}
-use Rattle.refusal.specs.declared.Refusal.{Refusal}
 use Rattle.refusal.specs.declared.Refusal.the-variants.{ZeroRecordSize, DepthAboveLimit}
 use Rattle.refusal.specs.Answer.{cells}
 use Rattle.refusal.proofs.Answers.{refused-is}
 use Rattle.node_info.specs.declared.NodeInfo.{NodeInfo}
 use Rattle.node_info.specs.Table.{infoAt, noInfo}
 use Rattle.node_info.proofs.Columns.{total-entry}
-use Rattle.format.specs.Walk.{Counts, Run, fine, stopped, noCounts, nodeRun}
+use Rattle.format.specs.Walk.{Run, fine, stopped, noCounts, nodeRun}
 use Rattle.format.specs.Reading.{collected, sourceOf, collectTests, countCells, runCells, runOutput}
 use Rattle.format.proofs.Outcomes.{collected-none, collected-root-none, collected-8, collected-16, collected-walk}
 use Rattle.btree_v2.specs.declared.BTreeV2Header.{BTreeV2Header}

@@ -2,7 +2,6 @@
 use mathlib.Core.Path.{_≡_}
 use mathlib.Core.Bool.{true, false}
 use mathlib.Core.List.{List, [], _∷_}
-use mathlib.Core.Logic.{⊎-elim}
 use Prim.Native.Nat.{ℕ, _+_, _^_, _≤_, _<_, min}
 use native.Mathlib.Omega.{arith}
 use lib.ListN.{length, getD}
@@ -10,7 +9,7 @@ use mir.Syntax.{w64}
 use mir.Val.{Fits}
 use borrow.Author.Tests.{le-leb, ne-eqb}
 use Rattle.fields.specs.Numbers.{part, num, fieldSize}
-use Rattle.fields.proofs.Numbers.{lt-or-le}
+use Rattle.fields.proofs.Numbers.{field-size-le}
 use Rattle.refusal.specs.declared.Refusal.{Refusal}
 use Rattle.refusal.specs.Answer.{Answer, accepted, refused, refusalOf, orElse}
 use Rattle.format.specs.Bytes.{headerSignature}
@@ -139,18 +138,6 @@ module _ (len o k : ℕ) (h : o + 16 ≤ len) (l : k < 16) where
   pub byte-fits : len < 2 ^ 64 → Fits w64 (o + k)
   byte-fits s = omega arith
 
--- A size that a field may have is at most 8.
-pub size-le : (w : ℕ) → fieldSize w ≡ true → w ≤ 8
-unfolding fieldSize
-size-le w e =
-    ⊎-elim
-    (λ (h : w < 9). omega arith)
-    (λ (h : 9 ≤ w).
-    let f : false ≡ true = rw (ne-eqb w 2 (λ x. omega arith), ne-eqb w 4 (λ x. omega arith), ne-eqb w 8 (λ x. omega arith)) at e in
-    let z : _≡_ {A = ℕ} 0 1 = cc in
-    omega arith)
-    (lt-or-le w 9)
-
 -- The fields, as they are read.
 pub fields-are : (file : List ℕ) (o ow lw a b c d e f : ℕ) → o + 18 + ow + lw ≤ length file → fieldSize ow ≡ true → fieldSize lw ≡ true → a ≡ num file (o + 6) 4
     → b ≡ num file (o + 10) 2 → c ≡ num file (o + 12) 2 → d ≡ num file (o + 16) (min ow 8) → e ≡ num file (o + 16 + ow) 2
@@ -158,6 +145,6 @@ pub fields-are : (file : List ℕ) (o ow lw a b c d e f : ℕ) → o + 18 + ow +
     → _≡_ {A = Header} (record { kind = getD file (o + 5) 0; ns = a; rs = b; depth = c; root = d; rootRecords = e; records = f }) (headerAt file o ow lw)
 unfolding headerAt
 fields-are file o ow lw a b c d e f h s l ha hb hc hd he hf =
-    let m : min ow 8 ≡ ow = omega (arith, size-le ow s) in
-    let n : min lw 8 ≡ lw = omega (arith, size-le lw l) in
+    let m : min ow 8 ≡ ow = omega (arith, field-size-le ow s) in
+    let n : min lw 8 ≡ lw = omega (arith, field-size-le lw l) in
     rw (num-1 file (o + 5) (omega arith), ha, hb, hc, hd, he, hf, m, n)

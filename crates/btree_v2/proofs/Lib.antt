@@ -3,6 +3,8 @@ mod Calls
 mod Checks
 mod Headers
 mod Holding
+mod Leaves
 mod Nodes
 mod Putting
 mod Steps
+mod Views

@@ -1,58 +1,32 @@
--- The tests of a leaf and of an internal node, one law for each way out, what a node that passes them has, and a child's pointer.
-use mathlib.Core.Path.{_≡_, refl, sym, ap, _∙_}
-use mathlib.Core.Bool.{Bool, true, false, not, _||_}
+-- The tests of an internal node, one law for each way out, what a node that passes them has, and a child's pointer.
+use mathlib.Core.Path.{_≡_, sym}
+use mathlib.Core.Bool.{Bool, true, false, not}
 use mathlib.Core.List.{List, [], _∷_}
 use Prim.Native.Nat.{ℕ, _+_, _-_, _*_, _%_, _^_, _≤_, _<_, min}
 use native.Mathlib.Nat.{le-refl, mul-le-mul, mul-le-mul-right}
 use native.Mathlib.Omega.{arith}
-use lib.Dec.{leb, eqb}
 use lib.ListN.{length, getD}
 use mir.Syntax.{w64}
 use mir.Val.{Fits}
-use borrow.Author.Tests.{leb-true, le-leb, lt-leb, eqb-true}
-use Rattle.fields.specs.Numbers.{held, part, num, fieldSize}
+use borrow.Author.Tests.{le-leb}
+use Rattle.fields.specs.Numbers.{part, num, fieldSize}
 use Rattle.fields.proofs.Lists.{length-part}
+use Rattle.fields.proofs.Numbers.{field-size-le}
 use Rattle.refusal.specs.declared.Refusal.{Refusal}
-use Rattle.refusal.specs.Answer.{Answer, accepted, refused, refusalOf, orElse}
-use Rattle.node_info.specs.Capacity.{countWidth, totalWidth}
+use Rattle.refusal.specs.Answer.{accepted, refused}
 use Rattle.node_info.proofs.Capacities.{count-width-le}
-use Rattle.format.specs.Bytes.{leafSignature, internalSignature}
+use Rattle.format.specs.Bytes.{internalSignature}
 use Rattle.format.specs.Walk.{needs, pointerWidth, pointerPlace, childAddress, childRecords}
-use Rattle.format.specs.Reading.{same, checksumTest, leafTest, internalTest}
+use Rattle.format.specs.Reading.{same, internalTest}
+use Rattle.format.proofs.Passing.{passed, there}
 use Rattle.btree_v2.specs.declared.Verdict.{Verdict}
 use Rattle.btree_v2.specs.declared.Verdict.the-variants.{Accepted, Refused}
 use Rattle.btree_v2.specs.declared.collect.Sizes.{Sizes}
 use Rattle.btree_v2.specs.declared.collect.Node.{Node}
 use Rattle.btree_v2.specs.Answers.{verdictOf}
 use Rattle.btree_v2.specs.Collecting.{sourceAt, Readable}
+use Rattle.btree_v2.proofs.Leaves.{front-there}
 use Rattle.btree_v2.proofs.Checks.{bytes-there, bytes-missing, test-holds, test-fails}
-use Rattle.btree_v2.proofs.Putting.{product-small}
-
--- What a test that is passed tells.
-passed : (t : Bool) (number : ℕ) (values figures : List ℕ) (rest : Answer) → orElse t (refused number values) rest ≡ accepted figures
-    → (t ≡ true) × (rest ≡ accepted figures)
-passed true number values figures rest e = (refl, e)
-passed false number values figures rest e = (cc, cc)
-
-there : (end length : ℕ) (figures : List ℕ) (rest : Answer) → needs end length rest ≡ accepted figures
-    → (end ≤ length) × (rest ≡ accepted figures)
-there end length figures rest e =
-    let h = passed (leb end length) 1 (held end ∷ length ∷ []) figures rest e in (leb-true end length (h .0), h .1)
-
--- Four bytes that follow place e are there.
-pub sum-there : (l e : ℕ) → 4 ≤ l - e → e + 4 ≤ l
-sum-there l e h = omega arith
-
--- Offsets have 8 bytes at most.
-field-size-le : (w : ℕ) → fieldSize w ≡ true → w ≤ 8
-unfolding fieldSize
-field-size-le w e = by (eqb w 2) (eqb w 4) (eqb w 8) refl refl refl e
-  where
-    by : (a b c : Bool) → eqb w 2 ≡ a → eqb w 4 ≡ b → eqb w 8 ≡ c → (a || (b || c)) ≡ true → w ≤ 8
-    by true b c p q r f = omega (arith, eqb-true w 2 p)
-    by false true c p q r f = omega (arith, eqb-true w 4 q)
-    by false false true p q r f = omega (arith, eqb-true w 8 r)
-    by false false false p q r f = let n : _≡_ {A = ℕ} 0 1 = cc in omega arith
 
 module _ (file : List ℕ) (z : Sizes) (x : Node) where
   -- The bytes of the node's records, and the file from the node on.
@@ -62,73 +36,6 @@ module _ (file : List ℕ) (z : Sizes) (x : Node) where
   abbrev behind : List ℕ
   behind = part file (x .address) (length file - x .address)
 
-  -- A leaf's tests, in their order.
-  module _ (front : Verdict) (told : verdictOf front ≡ needs (x .address + 6) (length file) (accepted [])) where
-    pub leaf-front : (q : Refusal) → front ≡ Refused q → verdictOf front ≡ leafTest (sourceAt file z) (x .address) (x .records)
-    unfolding leafTest sourceAt
-    leaf-front q e = rw e (sym (bytes-missing (x .address + 6) (length file) front told q e _))
-
-    module _ (begun : front ≡ Accepted) where
-      front-there : x .address + 6 ≤ length file
-      front-there = bytes-there (x .address + 6) (length file) front told begun
-
-      pub signature-there : x .address + 4 ≤ length file
-      signature-there = omega (arith, front-there)
-
-      pub node-in : x .address ≤ length file
-      node-in = omega (arith, front-there)
-
-      pub front-fits : length file < 2 ^ 64 → Fits w64 (x .address + 6)
-      front-fits h = omega (arith, front-there)
-
-      module _ (t : Bool) (is : t ≡ same (part file (x .address) 4) leafSignature) where
-        pub leaf-signature : not t ≡ true → refused 2 [] ≡ leafTest (sourceAt file z) (x .address) (x .records)
-        unfolding leafTest sourceAt
-        leaf-signature n = rw (le-leb _ _ front-there, test-fails t _ is n)
-
-        module _ (signed : not t ≡ false) (rows : Verdict)
-            (counted : verdictOf rows ≡ needs (x .address + 6 + rowBytes) (length file) (accepted [])) where
-          pub leaf-rows : (q : Refusal) → rows ≡ Refused q → verdictOf rows ≡ leafTest (sourceAt file z) (x .address) (x .records)
-          unfolding leafTest sourceAt
-          leaf-rows q e =
-              rw (le-leb _ _ front-there, test-holds t _ is signed, e)
-              (sym (bytes-missing (x .address + 6 + rowBytes) (length file) rows counted q e _))
-
-          module _ (whole : rows ≡ Accepted) where
-            pub rows-there : x .address + 6 + rowBytes ≤ length file
-            rows-there = bytes-there (x .address + 6 + rowBytes) (length file) rows counted whole
-
-            pub rows-fit : length file < 2 ^ 64 → Fits w64 (x .address + 6 + rowBytes)
-            rows-fit h = omega (arith, rows-there)
-
-            pub leaf-unchecked : length file - (x .address + 6 + rowBytes) < 4
-                → accepted [] ≡ leafTest (sourceAt file z) (x .address) (x .records)
-            unfolding leafTest sourceAt
-            leaf-unchecked h =
-                let short : length file < x .address + 10 + rowBytes = omega (arith, rows-there) in
-                rw (le-leb _ _ front-there, test-holds t _ is signed, le-leb _ _ rows-there, lt-leb _ _ short)
-
-            pub leaf-checked : (sum : Verdict) → 4 ≤ length file - (x .address + 6 + rowBytes)
-                → verdictOf sum ≡ checksumTest file (x .address) (x .address + 6 + rowBytes) (accepted [])
-                → verdictOf sum ≡ leafTest (sourceAt file z) (x .address) (x .records)
-            unfolding leafTest sourceAt
-            leaf-checked sum h e =
-                let long : x .address + 10 + rowBytes ≤ length file = omega (arith, rows-there) in
-                rw (le-leb _ _ front-there, test-holds t _ is signed, le-leb _ _ rows-there, le-leb _ _ long) e
-
-  -- A leaf that passes has its records.
-  pub leaf-there : (v : Verdict) → verdictOf v ≡ leafTest (sourceAt file z) (x .address) (x .records) → v ≡ Accepted
-      → x .address + 6 + rowBytes ≤ length file
-  unfolding leafTest sourceAt
-  leaf-there v told e =
-      let a = there (x .address + 6) (length file) [] _ (sym told ∙ ap verdictOf e) in
-      let b = passed (same (part file (x .address) 4) leafSignature) 2 [] [] _ (a .1) in
-      there (x .address + 6 + rowBytes) (length file) [] _ (b .1) .0
-
-  pub leaf-fits : (v : Verdict) → verdictOf v ≡ leafTest (sourceAt file z) (x .address) (x .records) → v ≡ Accepted
-      → length file < 2 ^ 64 → Fits w64 (x .address + 6)
-  leaf-fits v told e h = omega (arith, leaf-there v told e)
-
   -- An internal node's tests, in their order; its children have level d. The last two shortages are of the part from the node on.
   module _ (d : ℕ) (front : Verdict) (told : verdictOf front ≡ needs (x .address + 6) (length file) (accepted [])) where
     pub internal-front : (q : Refusal) → front ≡ Refused q → verdictOf front ≡ internalTest (sourceAt file z) d (x .address) (x .records)
@@ -137,19 +44,19 @@ module _ (file : List ℕ) (z : Sizes) (x : Node) where
 
     module _ (begun : front ≡ Accepted) where
       part-length : length (behind) ≡ length file - x .address
-      part-length = length-part file (x .address) (length file - x .address) (omega (arith, front-there front told begun))
+      part-length = length-part file (x .address) (length file - x .address) (omega (arith, front-there file (x .address) front told begun))
 
       module _ (t : Bool) (is : t ≡ same (part file (x .address) 4) internalSignature) where
         pub internal-signature : not t ≡ true → refused 2 [] ≡ internalTest (sourceAt file z) d (x .address) (x .records)
         unfolding internalTest sourceAt
-        internal-signature n = rw (le-leb _ _ (front-there front told begun), test-fails t _ is n)
+        internal-signature n = rw (le-leb _ _ (front-there file (x .address) front told begun), test-fails t _ is n)
 
         module _ (signed : not t ≡ false) (rows : Verdict)
             (counted : verdictOf rows ≡ needs (6 + rowBytes) (length (behind)) (accepted [])) where
           pub internal-rows : (q : Refusal) → rows ≡ Refused q → verdictOf rows ≡ internalTest (sourceAt file z) d (x .address) (x .records)
           unfolding internalTest sourceAt
           internal-rows q e =
-              rw (le-leb _ _ (front-there front told begun), test-holds t _ is signed, e, ← part-length)
+              rw (le-leb _ _ (front-there file (x .address) front told begun), test-holds t _ is signed, e, ← part-length)
               (sym (bytes-missing (6 + rowBytes) (length (behind)) rows counted q e _))
 
           module _ (whole : rows ≡ Accepted) (totals : List ℕ) (readable : Readable z totals d) (w : ℕ)
@@ -174,7 +81,7 @@ module _ (file : List ℕ) (z : Sizes) (x : Node) where
                     → verdictOf pointers ≡ internalTest (sourceAt file z) d (x .address) (x .records)
                 unfolding internalTest sourceAt
                 internal-pointers q e =
-                    rw (le-leb _ _ (front-there front told begun), test-holds t _ is signed, le-leb _ _ rows-in, e, ← part-length, ← width-is)
+                    rw (le-leb _ _ (front-there file (x .address) front told begun), test-holds t _ is signed, le-leb _ _ rows-in, e, ← part-length, ← width-is)
                     (sym (bytes-missing (6 + rowBytes + (x .records + 1) * w) (length behind) pointers listed q e _))
 
                 module _ (all : pointers ≡ Accepted) (s : Bool) (size : s ≡ fieldSize (z .«offset_size»)) where
@@ -184,12 +91,12 @@ module _ (file : List ℕ) (z : Sizes) (x : Node) where
                   pub internal-fine : s ≡ true → accepted [] ≡ internalTest (sourceAt file z) d (x .address) (x .records)
                   unfolding internalTest sourceAt
                   internal-fine h =
-                      rw (le-leb _ _ (front-there front told begun), test-holds t _ is signed, le-leb _ _ rows-in, le-leb _ _ pointers-in, ← size, h)
+                      rw (le-leb _ _ (front-there file (x .address) front told begun), test-holds t _ is signed, le-leb _ _ rows-in, le-leb _ _ pointers-in, ← size, h)
 
                   pub internal-size : s ≡ false → refused 4 (z .«offset_size» ∷ []) ≡ internalTest (sourceAt file z) d (x .address) (x .records)
                   unfolding internalTest sourceAt
                   internal-size h =
-                      rw (le-leb _ _ (front-there front told begun), test-holds t _ is signed, le-leb _ _ rows-in, le-leb _ _ pointers-in, ← size, h)
+                      rw (le-leb _ _ (front-there file (x .address) front told begun), test-holds t _ is signed, le-leb _ _ rows-in, le-leb _ _ pointers-in, ← size, h)
 
   -- An internal node that passes has its records and its pointers, and offsets have one of the sizes.
   module _ (d : ℕ) (passes : internalTest (sourceAt file z) d (x .address) (x .records) ≡ accepted []) where

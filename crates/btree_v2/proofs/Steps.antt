@@ -71,16 +71,16 @@ module _ (file : List ℕ) (z : Sizes) where
   tests = testsAt file z
 
   -- A leaf.
-  module _ (x : Node) (t : Tally) (o : List ℕ) (v : Verdict) (tested : verdictOf v ≡ leafTest s (x .address) (x .records)) where
+  module _ (x : Node) (t : Tally) (o : List ℕ) (v : Verdict) (tested : verdictOf v ≡ leafTest file (z .«record_size») (x .address) (x .records)) where
     pub leaf-stops : (q : Refusal) → v ≡ Refused q → Within z t o
         → Walked z (nodeWalk file z 0 x (countsOf t) o) (record { verdict = v; tally = t }) o
-    unfolding nodeWalk nodeRun leafRun collectTests
+    unfolding nodeWalk nodeRun leafRun collectTests sourceAt
     leaf-stops q e within = record { ends = sym (ap heldRun (test-stops _ v t o _ q tested e)); within = within }
 
     pub leaf-reads : (t1 : Tally) (r : Collected) (o1 : List ℕ) → v ≡ Accepted → heldCounts (countsOf t1) ≡ heldCounts (oneLeaf (countsOf t))
         → Walked z (putRecords s (x .records) (x .address + 6) (countsOf t1) o) r o1
         → Walked z (nodeWalk file z 0 x (countsOf t) o) r o1
-    unfolding nodeWalk nodeRun leafRun collectTests
+    unfolding nodeWalk nodeRun leafRun collectTests sourceAt
     leaf-reads t1 r o1 e counts =
         walked-as
         (from-held (putRecords s (x .records) (x .address + 6)) (puts-alike s (x .records) (x .address + 6)) (oneLeaf (countsOf t)) (countsOf t1) o counts

@@ -5,10 +5,8 @@ ghost use mathlib.Core.List.{[]};
 ghost use Prim.Native.Nat.{ℕ, _+_, _-_, _*_, _^_, _≤_, _<_};
 ghost use lib.ListN.{length};
 ghost use Rattle.refusal.specs.Answer.{accepted};
-ghost use Rattle.fields.specs.Numbers.{part};
-ghost use Rattle.fields.specs.Places.{stored};
 ghost use Rattle.format.specs.Walk.{oneLeaf, oneInternal, oneInner, putRecords, innerRun, nodeRun, pointerWidth, pointerPlace, childAddress, childRecords};
-ghost use Rattle.format.specs.Reading.{leafTest, internalTest, collected, runCells, runOutput};
+ghost use Rattle.format.specs.Reading.{internalTest, collected, runCells, runOutput};
 ghost use Rattle.btree_v2.specs.Answers.{fieldsOf, verdictOf, collectedCells};
 ghost use Rattle.btree_v2.specs.Collecting.{countsOf, heldCounts, sourceAt, Readable, Within, Walked, nodeWalk, innerWalk, childStep};
 use crate::BTreeV2Header;
@@ -16,6 +14,7 @@ use crate::Collected;
 use crate::Tally;
 use crate::Verdict;
 use crate::check;
+use crate::leaf;
 use node_info::NodeInfo;
 use refusal::Refusal;
 
@@ -71,27 +70,6 @@ fn one_inner(tally: Tally) -> Tally
     }
 }
 
-// Copies a slice over another of the same length.
-fn copy(to: &mut [u8], from: &[u8])
-    requires { ⌜ length (now to) ≡ length (now from) ⌝ }
-    ensures { λ _. ⌜ now (to .exit) ≡ now (from .entry) ⌝ }
-{
-    let n = to.len();
-    let mut i = 0;
-    while i < n {
-        to[i] = from[i];
-        i += 1;
-    }
-}
-
-// Puts `count` bytes of a file, from `from` on, at `at`.
-fn put_bytes(output: &mut [u8], at: usize, file: &[u8], from: usize, count: usize)
-    requires { ⌜ (at + count ≤ length (now output)) × (from + count ≤ length (now file)) ⌝ }
-    ensures { λ _. ⌜ now (output .exit) ≡ stored (now (output .entry)) at (part (now (file .entry)) from count) ⌝ }
-{
-    copy(&mut output[at..at + count], &file[from..from + count]);
-}
-
 // How many of n records of this size fit into `room` bytes.
 fn fitting(n: u16, size: u16, room: usize) -> usize
     requires { ⌜ 0 < size ⌝ }
@@ -120,7 +98,7 @@ fn put_records(
     let size = sizes.record_size;
     let at = tally.records as usize * (size as usize);
     let fit = fitting(n, size, output.len() - at);
-    put_bytes(output, at, file, from, fit * (size as usize));
+    fields::put_bytes(output, at, &file[from..from + fit * (size as usize)]);
     let tally = Tally {
         records: tally.records + (fit as u64),
         leaves: tally.leaves,
@@ -139,36 +117,12 @@ fn put_records(
     }
 }
 
-// A leaf's tests.
-fn check_leaf(file: &[u8], sizes: Sizes, node: Node) -> Verdict
-    ensures { λ r. ⌜ verdictOf r ≡ leafTest (sourceAt (now (file .entry)) sizes) (node .address) (node .records) ⌝ }
-{
-    let front = check::ensure_len(file, node.address, 6);
-    let Verdict::Accepted = front else {
-        return front;
-    };
-    let at = node.address as usize;
-    if !check::has_signature(file, at, b'L', b'F') {
-        return Verdict::Refused(Refusal::InvalidBTreeV2Signature);
-    }
-    let bytes = (node.records as u64) * (sizes.record_size as u64);
-    let records = check::ensure_len(file, node.address + 6, bytes);
-    let Verdict::Accepted = records else {
-        return records;
-    };
-    let end = at + 6 + (bytes as usize);
-    if file.len() - end < 4 {
-        return Verdict::Accepted;
-    }
-    check::check_checksum(file, at, end)
-}
-
 // Reads a leaf, whose records are put out at once.
 fn collect_leaf(file: &[u8], sizes: Sizes, node: Node, tally: Tally, output: &mut [u8]) -> Collected
     requires { ⌜ (0 < sizes .«record_size») × (Within sizes tally (now output)) ⌝ }
     ensures { λ r. ⌜ Walked sizes (nodeWalk (now (file .entry)) sizes 0 node (countsOf tally) (now (output .entry))) r (now (output .exit)) ⌝ }
 {
-    let verdict = check_leaf(file, sizes, node);
+    let verdict = leaf::check_leaf(file, node.address, node.records, sizes.record_size);
     let Verdict::Accepted = verdict else {
         return Collected { verdict, tally };
     };

@@ -6,6 +6,7 @@ use refusal::Refusal;
 mod check;
 pub mod collect;
 mod header;
+pub mod leaf;
 
 // The header, as it stands in a file.
 pub struct BTreeV2Header {

@@ -1,22 +1,18 @@
 -- The writing call: what its checks give to the functions that fill the outputs, and that these leave the defined bytes.
 use mathlib.Core.Path.{_≡_, refl, sym, _∙_, ap, subst, subst⁻¹}
-use mathlib.Core.Logic.{_⊎_, inl, inr, ⊎-elim}
-use mathlib.Core.Bool.{Bool, true, false, _||_}
 use mathlib.Core.List.{List, [], _∷_}
 use Prim.Native.Nat.{ℕ, _+_, _-_, _*_, _^_, _≤_, _<_}
 use native.Mathlib.Nat.{mul-le-mul-right}
 use native.Mathlib.Omega.{arith}
-use lib.Dec.{leb, eqb}
 use lib.Pow.{pow-mono, pow-pos}
 use lib.ListN.{length, getD}
-use borrow.Author.Tests.{eqb-true}
-use Rattle.fields.specs.Numbers.{fieldSize}
 use Rattle.fields.specs.Places.{stored}
+use Rattle.fields.proofs.Numbers.{field-size-le}
 use Rattle.refusal.specs.declared.Refusal.{Refusal}
-use Rattle.refusal.specs.Answer.{Answer, accepted, refused}
+use Rattle.refusal.specs.Answer.{refused}
 use Rattle.refusal.proofs.Answers.{refused-is}
 use Rattle.node_info.specs.declared.NodeInfo.{NodeInfo}
-use Rattle.node_info.specs.Capacity.{countWidth, totalWidth, subtreeCapacity}
+use Rattle.node_info.specs.Capacity.{totalWidth, subtreeCapacity}
 use Rattle.node_info.specs.Table.{infoAt}
 use Rattle.node_info.proofs.Capacities.{leaf-bytes, node-zero, subtree-zero}
 use Rattle.node_info.proofs.Columns.{total-entry, subtree-entry}
@@ -24,36 +20,23 @@ use Rattle.node_info.proofs.Depth.{depth-le, depth-small}
 use Rattle.plan.specs.declared.BTreeV2Plan.{BTreeV2Plan}
 use Rattle.plan.specs.declared.PlanAnswer.{PlanAnswer}
 use Rattle.plan.specs.declared.PlanAnswer.the-variants as plan-answer
-use Rattle.plan.specs.Tree.{nodes, below, count}
-use Rattle.plan.specs.Planned.{planDepth, planned, planFigures, planChecks, planTree, planAnswerOf}
+use Rattle.plan.specs.Tree.{nodes, below}
+use Rattle.plan.specs.Planned.{planDepth, planned, planFigures, planAnswerOf}
 use Rattle.plan.proofs.Checks.{Plannable, accepted-plannable}
 use Rattle.format.specs.Bytes.{address, headerBytes, image}
 use Rattle.format.specs.Writing.{Request, formOf, depthOf, nodesOf, imageOf, rootOf, rootRecordsOf, headerOf, written, headerExit, imageExit}
 use Rattle.format.proofs.Accepted.{Accepts, Roomy, accepts, roomy, plan-accepted}
-use Rattle.format.proofs.Collected.{fits, deep}
+use Rattle.format.proofs.Collected.{fits}
 use Rattle.format.proofs.Fronts.{header-left, image-left}
-use Rattle.format.proofs.Lengths.{Fit}
 use Rattle.format.proofs.Outcomes.{over-stored, header-put, image-put}
 use Rattle.btree_v2_write.specs.declared.Layout.{Layout}
 use Rattle.btree_v2_write.specs.declared.Child.{Child}
 use Rattle.btree_v2_write.specs.declared.Request as own
 use Rattle.btree_v2_write.specs.Layouts.{formAt}
-use Rattle.btree_v2_write.specs.Subtrees.{capacities, subtree, subtreeNodes, subtreeImage, Ready, Made, Whole}
+use Rattle.btree_v2_write.specs.Subtrees.{subtreeNodes, subtreeImage, Made, Whole}
 use Rattle.btree_v2_write.specs.Tests.{requestOf, Checked}
 use Rattle.btree_v2_write.specs.Call.{layoutOf, Accepted, Wrote}
 use Rattle.btree_v2_write.proofs.Subtrees.{root-records}
-
--- A field size is 8 at most.
-size-or : (b c d : Bool) → (b || (c || d)) ≡ true → (b ≡ true) ⊎ ((c ≡ true) ⊎ (d ≡ true))
-size-or true c d e = inl refl
-size-or false true d e = inr (inl refl)
-size-or false false d e = inr (inr e)
-
-pub field-le : (w : ℕ) → fieldSize w ≡ true → w ≤ 8
-unfolding fieldSize
-field-le w e =
-    ⊎-elim (λ h. omega (arith, eqb-true w 2 h)) (λ r. ⊎-elim (λ h. omega (arith, eqb-true w 4 h)) (λ h. omega (arith, eqb-true w 8 h)) r)
-    (size-or (eqb w 2) (eqb w 4) (eqb w 8) e)
 
 module _ (r : own.Request) (p : BTreeV2Plan) (info : NodeInfo) (recs hdr img : List ℕ) (a : Accepted (requestOf r) p info recs hdr img) where
   abbrev q : Request
@@ -99,7 +82,7 @@ module _ (r : own.Request) (p : BTreeV2Plan) (info : NodeInfo) (recs hdr img : L
 
   ends : q .start + nodesOf q * q .ns < 2 ^ 64
   ends =
-      let w : 8 * q .ow ≤ 64 = omega (arith, field-le (q .ow) (ok .offset)) in
+      let w : 8 * q .ow ≤ 64 = omega (arith, field-size-le (q .ow) (ok .offset)) in
       omega (arith, ok .end, pow-mono w, pow-pos (8 * q .ow))
 
   nodes-at : subtreeNodes l (depthOf q) (q .n) ≡ nodesOf q

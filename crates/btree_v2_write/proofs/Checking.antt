@@ -2,7 +2,7 @@
 use mathlib.Core.Path.{_≡_, refl, sym, _∙_, ap}
 use mathlib.Core.Bool.{Bool, true, false, not}
 use mathlib.Core.List.{List, [], _∷_}
-use Prim.Native.Nat.{ℕ, _+_, _-_, _*_, _^_, _≤_, _<_}
+use Prim.Native.Nat.{ℕ, _+_, _-_, _*_, _^_, _<_}
 use native.Mathlib.Omega.{arith}
 use lib.Dec.{leb, eqb}
 use borrow.Author.Tests.{not-true, not-false}
@@ -15,9 +15,9 @@ use Rattle.node_info.specs.Table.{infoAt, noInfo}
 use Rattle.plan.specs.declared.BTreeV2Plan.{BTreeV2Plan}
 use Rattle.plan.specs.declared.PlanAnswer.{PlanAnswer}
 use Rattle.plan.specs.declared.PlanAnswer.the-variants as plan-answer
-use Rattle.plan.specs.Planned.{planDepth, planFigures, planChecks, planAnswerOf, tableIf}
+use Rattle.plan.specs.Planned.{planFigures, planChecks, planAnswerOf, tableIf}
 use Rattle.plan.proofs.Checks.{Plannable, accepted-plannable}
-use Rattle.format.specs.Writing.{Request, depthOf, nodesOf, writeAnswer, onAccepted}
+use Rattle.format.specs.Writing.{Request, depthOf, nodesOf, writeAnswer}
 use Rattle.btree_v2_write.specs.declared.Lengths.{Lengths}
 use Rattle.btree_v2_write.specs.declared.Tested.{Tested}
 use Rattle.btree_v2_write.specs.declared.Tested.the-variants as tested

@@ -3,9 +3,9 @@
 use mathlib.Core.Path.{_≡_, refl, sym, _∙_, ap}
 use mathlib.Core.Logic.{⊎-elim}
 use mathlib.Core.Bool.{Bool, true, false}
-use mathlib.Core.List.{List, [], _∷_, _++_, append-assoc, append-nil}
+use mathlib.Core.List.{List, [], _∷_, _++_, append-assoc}
 use Prim.Native.Nat.{ℕ, zero, suc, _+_, _-_, _*_, _^_, _≤_, _<_}
-use native.Mathlib.Nat.{add-zero, zero-add, zero-mul, add-mul, one-mul, suc-mul, sub-zero, add-assoc, mul-le-mul-right, le-trans, le-mul-of-pos-right}
+use native.Mathlib.Nat.{add-zero, zero-mul, suc-mul, sub-zero, add-assoc, mul-le-mul-right, le-trans, le-mul-of-pos-right}
 use native.Mathlib.Numerals.{add-one}
 use native.Mathlib.Omega.{arith}
 use borrow.Author.Needs.{zero≤}
@@ -13,7 +13,7 @@ use borrow.Author.Tests.{lt-ltb, le-ltb}
 use mir.Val.{Fits}
 use mir.Syntax.{w64}
 use lib.Dec.{ltb}
-use lib.ListN.{length, take, drop, replicate, length-append}
+use lib.ListN.{length, take, replicate, length-append}
 use Rattle.fields.specs.Numbers.{pick, le, part}
 use Rattle.fields.specs.Places.{stored}
 use Rattle.fields.proofs.Lists.{stored-nil, stored-append, length-stored, length-part}

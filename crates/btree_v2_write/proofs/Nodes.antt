@@ -1,43 +1,24 @@
 -- Filling one node: bytes put front to back, each field right after the one before it.
-use mathlib.Core.Path.{_≡_, refl, sym, _∙_, ap}
+use mathlib.Core.Path.{_≡_, refl}
 use mathlib.Core.List.{List, [], _∷_, _++_, append-assoc, append-nil}
-use Prim.Native.Nat.{ℕ, zero, suc, _+_, _-_, _*_, _≤_, _<_}
-use native.Mathlib.Nat.{add-zero, zero-add, add-sub-cancel-left, le-of-eq, add-mul}
-use native.Mathlib.Numerals.{add-one}
+use Prim.Native.Nat.{ℕ, _+_, _-_, _*_, _≤_, _<_}
+use native.Mathlib.Nat.{add-zero, zero-add, le-of-eq, add-mul}
 use native.Mathlib.Omega.{arith}
 use borrow.Rule.Slice.PartMut.{putMid}
 use borrow.Author.Needs.{zero≤}
 use borrow.Author.Tests.{le-leb}
 use borrow.Author.Fill.{fill-more}
 use lib.Dec.{leb}
-use lib.ListN.{length, getD, set, take, drop, replicate, length-set, length-take, length-append, length-drop, length-replicate}
-use lib.Seq.{take-suc, take-all, take-length, length-take-le, drop-length, drop-drop, sets, sets-eq}
+use lib.ListN.{length, set, take, drop, replicate, length-set, length-append, length-drop, length-replicate}
+use lib.Seq.{take-all, drop-length, drop-drop, sets-eq}
 use Rattle.fields.specs.Numbers.{pick, le, part}
 use Rattle.fields.specs.Places.{stored, put}
-use Rattle.fields.proofs.Lists.{stored-is, stored-nil, stored-whole, stored-snoc, stored-append, stored-drop, take-stored-end, length-stored, length-part, put-fits}
+use Rattle.fields.proofs.Lists.{stored-is, stored-append, stored-drop, take-stored-end, length-stored, length-part, put-fits}
 use Rattle.fields.proofs.Numbers.{le-length}
 use Rattle.checksum.specs.Lookup3.{lookup3}
 use Rattle.format.specs.Bytes.{summed, padded, rows, leafBytes}
 use Rattle.btree_v2_write.specs.declared.Layout.{Layout}
 use Rattle.btree_v2_write.specs.Layouts.{formAt}
-
--- The loop of `copy`: the first i bytes are copied.
-abbrev pub Copied : List ℕ → List ℕ → List ℕ → ℕ → Type 0
-Copied to₀ from to i = (i ≤ length to₀) × (length to₀ ≡ length from) × (length to ≡ length to₀) × (to ≡ stored to₀ 0 (take i from))
-
-module _ (to₀ from : List ℕ) (same : length to₀ ≡ length from) where
-  pub copied-start : Copied to₀ from to₀ 0
-  copied-start = (zero≤, same, refl, rw stored-nil)
-
-  pub copied-turn : (to : List ℕ) (i : ℕ) → Copied to₀ from to i → i < length to₀ → Copied to₀ from (set to i (getD from i 0)) (i + 1)
-  copied-turn to i inv h =
-      let l : length (take i from) ≡ i = length-take-le i from (omega arith) in
-      let s = stored-snoc to₀ 0 (take i from) (getD from i 0) (rw (l, zero-add) h) in
-      (omega arith, same, rw length-set (inv .2), rw (inv .3, add-one, take-suc from i 0 (omega arith)) (rw (l, zero-add) at s))
-
-  pub copied-end : (to : List ℕ) (i : ℕ) → Copied to₀ from to i → length to₀ ≤ i → to ≡ from
-  copied-end to i inv h =
-      rw (inv .3, take-all i from (omega arith), stored-whole to₀ from (omega arith))
 
 -- The loop of `clear`: the first i bytes are 0.
 abbrev pub Cleared : List ℕ → List ℕ → ℕ → Type 0
@@ -58,20 +39,13 @@ six o a b c d e f h =
     rw stored-is (sets-eq (a ∷ b ∷ c ∷ d ∷ e ∷ f ∷ []) o 0 h)
 
 -- A part that was lent, back at its place; a part up to the end, in which something was stored from its front on.
-pub mid-stored : (o : List ℕ) (a k : ℕ) (b : List ℕ) → k ≡ length b → putMid a k o b ≡ stored o a b
+mid-stored : (o : List ℕ) (a k : ℕ) (b : List ℕ) → k ≡ length b → putMid a k o b ≡ stored o a b
 mid-stored o a k b e = rw (stored-is, e, drop-drop)
 
-pub tail-stored : (o : List ℕ) (a : ℕ) (b : List ℕ) → a ≤ length o
+tail-stored : (o : List ℕ) (a : ℕ) (b : List ℕ) → a ≤ length o
     → putMid a (length o - a) o (stored (part o a (length o - a)) 0 b) ≡ stored o a b
 tail-stored o a b h =
     rw (take-all (length o - a) (drop a o) (le-of-eq (length-drop a o)), ← length-drop a o, drop-length, append-nil, stored-drop, add-zero)
-
--- `put_rows`: the rows at their place.
-pub rows-put : (o records b : List ℕ) (at first count : ℕ) → at + count ≤ length o → first + count ≤ length records
-    → b ≡ part records first (first + count - first) → putMid at (at + count - at) o b ≡ stored o at (part records first count)
-rows-put o records b at first count h l e =
-    let same : b ≡ part records first count = rw (e, add-sub-cancel-left) in
-    rw (mid-stored o at (at + count - at) b (rw (same, length-part records first count l, add-sub-cancel-left)), same)
 
 -- `put_number`: a field that fits.
 pub number-put : (o d : List ℕ) (at x w r : ℕ) → at + w ≤ length o → d ≡ put o at (le w x) → r ≡ pick (leb (at + w) (length o)) (at + w) at

@@ -3,27 +3,27 @@ use mathlib.Core.Path.{_≡_, refl, sym, _∙_, ap}
 use mathlib.Core.Logic.{⊎-elim}
 use mathlib.Core.Bool.{false}
 use mathlib.Core.List.{List, [], _∷_, _++_, append-nil}
-use Prim.Native.Nat.{ℕ, zero, suc, _+_, _-_, _*_, _^_, _≤_, _<_}
-use native.Mathlib.Nat.{one-mul, sub-zero, not-suc-le-zero, suc-sub-suc, zero-sub}
+use Prim.Native.Nat.{ℕ, zero, suc, _+_, _-_, _≤_, _<_}
+use native.Mathlib.Nat.{one-mul, sub-zero, not-suc-le-zero, suc-sub-suc}
 use native.Mathlib.Numerals.{add-one}
 use native.Mathlib.Omega.{arith}
 use lib.Dec.{ltb}
 use lib.ListN.{length, replicate}
 use borrow.Author.Tests.{lt-ltb, le-ltb}
-use Rattle.fields.specs.Numbers.{pick, part}
+use Rattle.fields.specs.Numbers.{pick}
 use Rattle.fields.proofs.Numbers.{lt-or-le}
-use Rattle.plan.specs.Tree.{Kids, last, more, Tree, count, size, below, nodes, between}
+use Rattle.plan.specs.Tree.{count, size, below, nodes}
 use Rattle.plan.specs.Planned.{taken, children, kidsOf, planTree, thin}
-use Rattle.plan.proofs.Dealing.{share, extra, extra-lt, children-is, length-children, children-some, sumOf-children, sum-children, taken-le, taken-pos, all-children-less, all-children-more}
-use Rattle.plan.proofs.Lists.{sumOf, AllOf, sumOf-cong, all-of-map}
-use Rattle.plan.proofs.Plans.{plan-size, plan-nodes, plan-count}
+use Rattle.plan.proofs.Dealing.{share, extra, extra-lt, children-is, length-children, children-some, sumOf-children, sum-children, taken-le, all-children-less, all-children-more}
+use Rattle.plan.proofs.Lists.{sumOf, AllOf, all-of-map}
+use Rattle.plan.proofs.Plans.{plan-size, plan-nodes}
 use Rattle.plan.proofs.Thin.{thin-children, thin-pos}
-use Rattle.format.specs.Bytes.{Form, rows, address, pointerBytes, pointer, pointers, ownRows, internalSignature, internalBytes, padded, kidsImage, image}
+use Rattle.format.specs.Bytes.{rows, address, pointerBytes, pointer, pointers, ownRows, internalBytes, padded, kidsImage, image}
 use Rattle.btree_v2_write.specs.declared.Layout.{Layout}
 use Rattle.btree_v2_write.specs.declared.Child.{Child}
 use Rattle.btree_v2_write.specs.declared.Inner.{Inner}
 use Rattle.btree_v2_write.specs.Layouts.{formAt}
-use Rattle.btree_v2_write.specs.Shares.{twoSizes, withOne, rowsAfter, pointerSize, pointerTo, pointersTo, nodesOfAll, innerBytes, innerShares, innerChildren}
+use Rattle.btree_v2_write.specs.Shares.{twoSizes, withOne, rowsAfter, pointerTo, pointersTo, nodesOfAll, innerBytes, innerShares, innerChildren}
 use Rattle.btree_v2_write.specs.Subtrees.{capacities, subtree, subtreeNodes, subtreeImage}
 
 -- The two sizes as runs.

@@ -3,7 +3,7 @@ use mathlib.Core.Path.{_≡_, refl, sym, _∙_, ap, subst}
 use mathlib.Core.Bool.{false}
 use mathlib.Core.List.{List, [], _∷_, _++_}
 use Prim.Native.Nat.{ℕ, zero, suc, _+_, _-_, _*_, _^_, _≤_, _<_}
-use native.Mathlib.Nat.{le-trans, mul-le-mul-right, le-mul-of-pos-right, div-le-self, sub-le, not-suc-le-zero, zero-mul}
+use native.Mathlib.Nat.{le-trans, mul-le-mul-right, le-mul-of-pos-right, div-le-self, not-suc-le-zero, zero-mul}
 use native.Mathlib.Omega.{arith}
 use mir.Val.{Fits}
 use mir.Syntax.{w64}
@@ -14,7 +14,7 @@ use Rattle.fields.specs.Numbers.{pick}
 use Rattle.fields.specs.Places.{stored}
 use Rattle.fields.proofs.Lists.{stored-nil, length-stored}
 use Rattle.node_info.proofs.Capacities.{total-le}
-use Rattle.plan.specs.Tree.{Tree, sumKids, between, nodes, below, count, size}
+use Rattle.plan.specs.Tree.{sumKids, between, nodes, below, count, size}
 use Rattle.plan.specs.Planned.{taken, children, kidsOf, planTree, thin}
 use Rattle.plan.proofs.Dealing.{share, extra, taken-le, taken-pos, extra-lt, children-some, all-children}
 use Rattle.plan.proofs.Lists.{sumOf, AllOf, sumKids-of}

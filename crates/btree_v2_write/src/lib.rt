@@ -40,19 +40,6 @@ pub struct Layout {
     pub start: u64,
 }
 
-// Copies a slice over another of the same length.
-fn copy(to: &mut [u8], from: &[u8])
-    requires { ⌜ length (now to) ≡ length (now from) ⌝ }
-    ensures { λ _. ⌜ now (to .exit) ≡ now (from .entry) ⌝ }
-{
-    let n = to.len();
-    let mut i = 0;
-    while i < n {
-        to[i] = from[i];
-        i += 1;
-    }
-}
-
 // Zeros over a whole slice.
 fn clear(to: &mut [u8])
     ensures { λ _. ⌜ now (to .exit) ≡ replicate (length (now (to .entry))) 0 ⌝ }
@@ -83,7 +70,7 @@ fn put_rows(node: &mut [u8], at: usize, records: &[u8], first: usize, count: usi
     requires { ⌜ (at + count ≤ length (now node)) × (first + count ≤ length (now records)) ⌝ }
     ensures { λ _. ⌜ now (node .exit) ≡ stored (now (node .entry)) at (part (now (records .entry)) first count) ⌝ }
 {
-    copy(&mut node[at..at + count], &records[first..first + count]);
+    fields::put_bytes(node, at, &records[first..first + count]);
 }
 
 // Puts x in `width` bytes at `at`, and gives the place after them.

@@ -26,6 +26,7 @@ use Rattle.btree_v2.specs.declared.BTreeV2Header.{BTreeV2Header}
 use Rattle.btree_v2.specs.declared.HeaderAnswer.{HeaderAnswer}
 use Rattle.btree_v2.specs.declared.HeaderAnswer.the-variants.{Parsed}
 use Rattle.btree_v2.specs.declared.Collected.{Collected}
+use Rattle.btree_v2.specs.declared.Verdict as btree
 use Rattle.btree_v2.specs.declared.Verdict.the-variants as verdict
 use Rattle.btree_v2.specs.Answers.{headerAnswerOf, verdictOf, collectedCells}
 
@@ -100,6 +101,11 @@ pub header-put : {p : HeaderAnswer} {h : BTreeV2Header} → p ≡ Parsed h
     ≡ cells 8 (headerAnswerOf p)
 unfolding cells
 header-put e = rw e
+
+-- A verdict that accepts.
+pub verdict-put : (v : btree.Verdict) → v ≡ verdict.Accepted → 0 ∷ 0 ∷ 0 ∷ [] ≡ cells 3 (verdictOf v)
+unfolding cells
+verdict-put v e = rw e
 
 -- What was collected: number and values, and the counts.
 module _ (r : Collected) where

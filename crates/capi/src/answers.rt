@@ -7,7 +7,7 @@ ghost use Rattle.fields.specs.Places.{stored};
 ghost use Rattle.refusal.specs.Answer.{refusalOf, cells};
 ghost use Rattle.node_info.specs.Table.{tableAnswer};
 ghost use Rattle.plan.specs.Planned.{planAnswerOf};
-ghost use Rattle.btree_v2.specs.Answers.{headerAnswerOf, collectedCells};
+ghost use Rattle.btree_v2.specs.Answers.{headerAnswerOf, verdictOf, collectedCells};
 use btree_v2::Collected;
 use btree_v2::HeaderAnswer;
 use node_info::NodeInfoAnswer;
@@ -149,5 +149,17 @@ pub(crate) fn put_collected(answer: &mut [u64; 7], collected: Collected)
                 tally.inner,
             ];
         }
+    }
+}
+
+// The refusal's number and values, zeros where there is none.
+pub(crate) fn put_verdict(answer: &mut [u64; 3], verdict: btree_v2::Verdict)
+    ensures { λ _. ⌜ now (answer .exit) ≡ cells 3 (verdictOf verdict) ⌝ }
+{
+    match verdict {
+        btree_v2::Verdict::Accepted => {
+            *answer = [0, 0, 0];
+        }
+        btree_v2::Verdict::Refused(cause) => put_refusal(answer, cause),
     }
 }

@@ -7,11 +7,13 @@ ghost use Rattle.node_info.specs.Table.{tabled};
 ghost use Rattle.plan.specs.Planned.{planAnswer};
 ghost use Rattle.format.specs.Writing.{written, headerExit, imageExit};
 ghost use Rattle.format.specs.Reading.{parsed, collected, runCells, runOutput};
+ghost use Rattle.format.specs.Look.{recordAnswer, recordExit};
 ghost use Rattle.btree_v2_write.specs.Call.{asked};
 ghost use Rattle.capi.specs.Given.{given};
 use btree_v2::BTreeV2Header;
 use node_info::NodeInfo;
 use plan::BTreeV2Plan;
+use refusal::Refusal;
 
 mod answers;
 
@@ -125,4 +127,34 @@ pub extern "C" fn btree_v2_collect(
     };
     let collected = btree_v2::collect::collect_btree_v2_records(file, header, offset_size, output);
     answers::put_collected(answer, collected);
+}
+
+// Record `index` of a leaf, copied to the front of the output: its length, 0 where the index is not below the count. A record has bytes
+// where the leaf passes its tests, so only without any they are asked again, for the refusal.
+#[no_mangle]
+pub extern "C" fn btree_v2_leaf_record(
+    file: &[u8],
+    address: u64,
+    count: u16,
+    record_size: u16,
+    index: u64,
+    output: &mut [u8],
+    answer: &mut [u64; 3],
+)
+    ensures answered { λ _. ⌜ now (answer .exit) ≡ cells 3 (recordAnswer (now (file .entry)) «record_size» address count index (now (output .entry))) ⌝ }
+    ensures outputLeft { λ _. ⌜ now (output .exit) ≡ recordExit (now (file .entry)) «record_size» address count index (now (output .entry)) ⌝ }
+{
+    let record = btree_v2::leaf::leaf_record(file, address, count, record_size, index);
+    let length = record.len();
+    if length == 0 {
+        let verdict = btree_v2::leaf::check_view(file, address, count, record_size);
+        answers::put_verdict(answer, verdict);
+        return;
+    }
+    if output.len() < length {
+        answers::put_refusal(answer, Refusal::OutputTooShort(output.len() as u64));
+        return;
+    }
+    fields::put_bytes(output, 0, record);
+    *answer = [0, length as u64, 0];
 }

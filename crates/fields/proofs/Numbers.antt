@@ -222,3 +222,14 @@ module _ (s : ℕ) where
   pub size-8 : (s ≡ 2 → ⊥) → (s ≡ 4 → ⊥) → eqb s 8 ≡ fieldSize s
   unfolding fieldSize
   size-8 h g = rw (ne-eqb s 2 h, ne-eqb s 4 g)
+
+  pub field-size-le : fieldSize s ≡ true → s ≤ 8
+  unfolding fieldSize
+  field-size-le e =
+      ⊎-elim
+      (λ (h : s < 9). omega arith)
+      (λ (h : 9 ≤ s).
+      let f : false ≡ true = rw (ne-eqb s 2 (λ x. omega arith), ne-eqb s 4 (λ x. omega arith), ne-eqb s 8 (λ x. omega arith)) at e in
+      let z : _≡_ {A = ℕ} 0 1 = cc in
+      omega arith)
+      (lt-or-le s 9)

@@ -1,10 +1,11 @@
-// Little-endian numbers in byte slices, the byte width of a count, and sums and products held at 2^64 - 1.
+// Little-endian numbers in byte slices, parts of these and bytes put into them, the byte width of a count, and sums and products held at
+// 2^64 - 1.
 
 ghost use mathlib.Core.Path.{_≡_};
 ghost use Prim.Native.Nat.{_+_, _*_, _≤_, min};
 ghost use lib.Dec.{leb};
 ghost use lib.ListN.{length};
-ghost use Rattle.fields.specs.Numbers.{pick, le, num, held, width, fieldSize};
+ghost use Rattle.fields.specs.Numbers.{pick, le, part, num, held, width, fieldSize};
 ghost use Rattle.fields.specs.Places.{put};
 
 // The number of bytes that hold a count: 1 for zero.
@@ -88,6 +89,49 @@ pub fn write_le(data: &mut [u8], at: usize, x: u64, width: usize) -> usize
         i += 1;
     }
     at + width
+}
+
+// The `count` bytes from `at` on, or as many as there are.
+pub fn part<'a>(data: &'a [u8], at: u64, count: u64) -> &'a [u8]
+    ensures { λ r. ⌜ now r ≡ part (now («data» .entry)) at count ⌝ }
+{
+    let len = data.len() as u64;
+    if len <= at {
+        return &data[0..0];
+    }
+    let from = at as usize;
+    if len - at <= count {
+        return &data[from..];
+    }
+    &data[from..from + (count as usize)]
+}
+
+// Copies a slice over another of the same length.
+fn copy(to: &mut [u8], from: &[u8])
+    requires { ⌜ length (now to) ≡ length (now from) ⌝ }
+    ensures { λ _. ⌜ now (to .exit) ≡ now (from .entry) ⌝ }
+{
+    let n = to.len();
+    let mut i = 0;
+    while i < n {
+        to[i] = from[i];
+        i += 1;
+    }
+}
+
+// Puts bytes at `at` where they fit; else changes nothing.
+pub fn put_bytes(data: &mut [u8], at: usize, bytes: &[u8])
+    ensures { λ _. ⌜ now («data» .exit) ≡ put (now («data» .entry)) at (now (bytes .entry)) ⌝ }
+{
+    let len = data.len();
+    let count = bytes.len();
+    if len < at {
+        return;
+    }
+    if len - at < count {
+        return;
+    }
+    copy(&mut data[at..at + count], bytes);
 }
 
 // Whether offsets or lengths may have this size.

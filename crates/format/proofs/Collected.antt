@@ -13,12 +13,12 @@ use Rattle.node_info.specs.Capacity.{leafCapacity, subtreeCapacity, nodeCapacit
 use Rattle.node_info.proofs.Capacities.{node-le-leaf, count-fits, total-fits, leaf-bytes, internal-bytes}
 use Rattle.node_info.proofs.Depth.{depth-le}
 use Rattle.refusal.specs.Answer.{accepted}
-use Rattle.plan.specs.Tree.{Kids, last, more, Tree, count, size}
+use Rattle.plan.specs.Tree.{Tree, count, size}
 use Rattle.plan.specs.Planned.{planDepth, planned}
 use Rattle.plan.proofs.Checks.{Plannable, accepted-plannable}
 use Rattle.plan.proofs.Plans.{plan-size, plan-filled, plan-within}
 use Rattle.plan.proofs.Depths.{depth-levels}
-use Rattle.plan.proofs.Trees.{AllKids, Everywhere, everywhere-root, Filled, Within, leaves-inner, nodes-kinds, nodes-le-size}
+use Rattle.plan.proofs.Trees.{Everywhere, everywhere-root, everywhere-both, Filled, Within, leaves-inner, nodes-kinds, nodes-le-size}
 use Rattle.format.specs.Bytes.{address}
 use Rattle.format.specs.Walk.{fine, noCounts, nodeRun}
 use Rattle.format.specs.Writing.{Request, formOf, depthOf, nodesOf, imageOf, rootOf, rootRecordsOf, written}
@@ -28,17 +28,6 @@ use Rattle.format.proofs.Accepted.{Accepts, accepts, root-fits}
 use Rattle.format.proofs.Lengths.{nodeLength, Fit, Room, rows-all, length-image}
 use Rattle.format.proofs.Sound.{treeTally}
 use Rattle.format.proofs.Image.{sourceFor, Imaged, collecting-passes, image-walks}
-
--- What two properties at every node give. (To stand in plan/proofs/Trees.)
-all-kids-both : {A : Type 0} (P Q R : A → Type 0) → ((t : A) → P t → Q t → R t) → (ts : Kids A) → AllKids P ts → AllKids Q ts → AllKids R ts
-all-kids-both P Q R h (last t) p q = h t p q
-all-kids-both P Q R h (more t ts) p q = (h t (p .0) (q .0), all-kids-both P Q R h ts (p .1) (q .1))
-
-everywhere-both : (P Q R : (u : ℕ) → Tree u → Type 0) → ((u : ℕ) (t : Tree u) → P u t → Q u t → R u t)
-    → (d : ℕ) (t : Tree d) → Everywhere P d t → Everywhere Q d t → Everywhere R d t
-everywhere-both P Q R h zero n p q = h zero n p q
-everywhere-both P Q R h (suc d) ts p q =
-    (h (suc d) ts (p .0) (q .0), all-kids-both _ _ _ (everywhere-both P Q R h d) ts (p .1) (q .1))
 
 module _ (q : Request) where
   -- The capacities of a node and of a subtree by the level, and the planned tree.

@@ -61,7 +61,7 @@ module _ (g : Form) (start : ℕ) (recs file : List ℕ) where
 
   -- Collecting's tests are such.
   module _ (sum-fits : (xs : List ℕ) → lookup3 xs < 256 ^ 4) (offset : fieldSize (g .ow) ≡ true) where
-    leaf-passes : (n r a : ℕ) → Room g start recs r n → Stand file a (summed (leafBytes g start recs n r)) → leafTest source a n ≡ accepted []
+    leaf-passes : (n r a : ℕ) → Room g start recs r n → Stand file a (summed (leafBytes g start recs n r)) → leafTest file (g .rs) a n ≡ accepted []
     unfolding leafTest leafBytes
     leaf-passes n r a h st =
         let s = node-stands leafSignature (rows g start recs r n) a refl st in

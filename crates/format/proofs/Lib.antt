@@ -3,6 +3,7 @@ pub mod Standing
 pub mod Passing
 pub mod Accepted
 pub mod Puts
+pub mod Looking
 pub mod Sound
 pub mod Lengths
 pub mod Image

@@ -1,18 +1,30 @@
--- Where the readers' tests pass.
+-- Where the readers' tests pass, and what a test that is passed tells.
 use mathlib.Core.Path.{_≡_, refl}
-use mathlib.Core.Bool.{true}
+use mathlib.Core.Bool.{Bool, true, false}
 use mathlib.Core.List.{List, [], _∷_}
 use Prim.Native.Nat.{ℕ, _+_, _-_, _^_, _≤_, _<_}
 use native.Mathlib.Omega.{arith}
+use lib.Dec.{leb}
 use lib.ListN.{length}
-use borrow.Author.Tests.{le-leb, eq-eqb}
+use borrow.Author.Tests.{leb-true, le-leb, eq-eqb}
 use Rattle.checksum.specs.Lookup3.{lookup3}
-use Rattle.fields.specs.Numbers.{le}
-use Rattle.refusal.specs.Answer.{Answer}
+use Rattle.fields.specs.Numbers.{le, held}
+use Rattle.refusal.specs.Answer.{Answer, accepted, refused, orElse}
 use Rattle.format.specs.Bytes.{summed}
 use Rattle.format.specs.Walk.{needs}
 use Rattle.format.specs.Reading.{same, checksumTest}
 use Rattle.format.proofs.Standing.{Stand, stand-left, stand-right, stand-num}
+
+-- What a test that is passed tells.
+pub passed : (t : Bool) (number : ℕ) (values figures : List ℕ) (rest : Answer) → orElse t (refused number values) rest ≡ accepted figures
+    → (t ≡ true) × (rest ≡ accepted figures)
+passed true number values figures rest e = (refl, e)
+passed false number values figures rest e = (cc, cc)
+
+pub there : (end length : ℕ) (figures : List ℕ) (rest : Answer) → needs end length rest ≡ accepted figures
+    → (end ≤ length) × (rest ≡ accepted figures)
+there end length figures rest e =
+    let h = passed (leb end length) 1 (held end ∷ length ∷ []) figures rest e in (leb-true end length (h .0), h .1)
 
 pub needs-fits : (e l : ℕ) (rest : Answer) → e ≤ l → needs e l rest ≡ rest
 needs-fits e l rest h = rw (le-leb e l h)

@@ -3,4 +3,5 @@ pub mod Bytes
 pub mod Writing
 pub mod Walk
 pub mod Reading
+pub mod Look
 pub mod Return

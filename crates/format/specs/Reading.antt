@@ -67,16 +67,16 @@ module _ (file : List ℕ) (o ow lw : ℕ) where
       (needs (o + 22 + ow + lw) (length file)
       (checksumTest file o (o + 18 + ow + lw) (accepted (headerFigures headerAt))))))))))))
 
-module _ (s : Source) where
-  -- A leaf at a with n records: 6 bytes, signature, records, and the checksum only where its 4 bytes are there.
-  unfoldable pub leafTest : ℕ → ℕ → Answer
-  leafTest a n =
-      needs (a + 6) (length (s .file))
-      (orElse (same (part (s .file) a 4) leafSignature) (refused 2 [])
-      (needs (a + 6 + n * s .rs) (length (s .file))
-      (orElse (leb (a + 10 + n * s .rs) (length (s .file))) (accepted [])
-      (checksumTest (s .file) a (a + 6 + n * s .rs) (accepted [])))))
+-- A leaf at a with n records of rs bytes: 6 bytes, signature, records, and the checksum only where its 4 bytes are there.
+unfoldable pub leafTest : List ℕ → ℕ → ℕ → ℕ → Answer
+leafTest file rs a n =
+    needs (a + 6) (length file)
+    (orElse (same (part file a 4) leafSignature) (refused 2 [])
+    (needs (a + 6 + n * rs) (length file)
+    (orElse (leb (a + 10 + n * rs) (length file)) (accepted [])
+    (checksumTest file a (a + 6 + n * rs) (accepted [])))))
 
+module _ (s : Source) where
   -- An internal node at a with n records whose children have level d: 6 bytes, signature, records, pointers, offset size. The figures of the
   -- last two shortages are of the part of the file from a on.
   unfoldable pub internalTest : ℕ → ℕ → ℕ → Answer
@@ -89,7 +89,7 @@ module _ (s : Source) where
 
   -- Collecting's tests; nothing is tested after a child.
   unfoldable pub collectTests : Tests
-  collectTests = record { leaf = leafTest; internal = internalTest; child = λ d p m. accepted [] }
+  collectTests = record { leaf = leafTest (s .file) (s .rs); internal = internalTest; child = λ d p m. accepted [] }
 
 -- The file as a tree of this header is walked.
 unfoldable pub sourceOf : List ℕ → Header → ℕ → Source

@@ -18,6 +18,10 @@ module _ {A : Type 0} where
   all-kids-map P Q h (last t) p = h t p
   all-kids-map P Q h (more t ts) p = (h t (p .0), all-kids-map P Q h ts (p .1))
 
+  pub all-kids-both : (P Q R : A → Type 0) → ((t : A) → P t → Q t → R t) → (ts : Kids A) → AllKids P ts → AllKids Q ts → AllKids R ts
+  all-kids-both P Q R h (last t) p q = h t p q
+  all-kids-both P Q R h (more t ts) p q = (h t (p .0) (q .0), all-kids-both P Q R h ts (p .1) (q .1))
+
   module _ (f g : A → ℕ) where
     -- Sums over the children, compared child by child.
     pub sumKids-le : (ts : Kids A) → AllKids (λ t. f t ≤ g t) ts → sumKids f ts ≤ sumKids g ts
@@ -71,6 +75,12 @@ pub everywhere-map : (P Q : (u : ℕ) → Tree u → Type 0) → ((u : ℕ) (t :
     → (d : ℕ) (t : Tree d) → Everywhere P d t → Everywhere Q d t
 everywhere-map P Q h zero n e = h zero n e
 everywhere-map P Q h (suc d) ts e = (h (suc d) ts (e .0), all-kids-map _ _ (everywhere-map P Q h d) ts (e .1))
+
+pub everywhere-both : (P Q R : (u : ℕ) → Tree u → Type 0) → ((u : ℕ) (t : Tree u) → P u t → Q u t → R u t)
+    → (d : ℕ) (t : Tree d) → Everywhere P d t → Everywhere Q d t → Everywhere R d t
+everywhere-both P Q R h zero n p q = h zero n p q
+everywhere-both P Q R h (suc d) ts p q =
+    (h (suc d) ts (p .0) (q .0), all-kids-both _ _ _ (everywhere-both P Q R h d) ts (p .1) (q .1))
 
 -- Every node of a level u holds m u records at most, and every subtree of that level c u.
 abbrev pub Within : (ℕ → ℕ) → (ℕ → ℕ) → (d : ℕ) → Tree d → Type 0

@@ -17,7 +17,7 @@ use mathlib.Core.Path.{refl}
 use Prim.Native.Nat.{_+_, _-_}
 use native.Mathlib.Omega.{arith}
 use borrow.Author.Needs.{needs}
-use Rattle.btree_v2_write.proofs.Subtrees.{Dealt, Begun, Ended, leaf-asked, leaf-next-fits, leaf-done, base-few, kept-small, width-small, first-ready, first-row-fits, first-next-fits, KidsLeft, loop-start, kid-ready, kid-row-fits, kid-next-fits, loop-turn, root-fits, root-room, root-next-fits, root-done}
+use Rattle.btree_v2_write.proofs.Subtrees.{Dealt, Begun, leaf-asked, leaf-next-fits, leaf-done, base-few, kept-small, width-small, first-ready, first-row-fits, first-next-fits, KidsLeft, loop-start, kid-ready, kid-row-fits, kid-next-fits, loop-turn, root-fits, root-room, root-next-fits, root-done}
 
 abbrev μ-write-subtree : Measures 4 write-subtree-kinds.ps ℕ
 μ-write-subtree κs a = a .1 .1 .1 .1 .1 .0

@@ -1,5 +1,5 @@
 -- The rows go to their place.
-use Rattle.btree_v2_write.proofs.Nodes.{rows-put}
+use Rattle.fields.proofs.Copying.{part-put}
 use borrow.Author.Needs.{needs}
 use Rattle.btree_v2_write.proofs.put_rows.Statement.{statement}
 use Rattle.btree_v2_write.proofs.put_rows.Tie as tie
@@ -12,10 +12,6 @@ put-rows-spec =
     (λ c. search needs)
     (λ c. search needs)
     (λ c. search needs)
-    (λ c. search needs)
-    (λ c. search needs)
-    (λ c. search needs)
-    (λ c. search needs)
     (λ c κs. search needs)
     (λ c. search needs)
-    (λ c. search rows-put))
+    (λ c. part-put _ _ _ _ _ _ (c .before .before .before .before .before .before .before .pre .0) (c .before .before .before .before .before .before .before .pre .1) (c .before .before .put-bytes .ensures)))

@@ -1,6 +1,6 @@
 -- `check_internal` makes its tests in their order.
-use Rattle.btree_v2.proofs.Nodes.{signature-there, node-in, internal-front, internal-signature, internal-rows, internal-pointers, internal-fine, internal-size, pointers-fit}
-use Rattle.btree_v2.proofs.Putting.{product-fits, rows-end-fits}
+use Rattle.btree_v2.proofs.Nodes.{internal-front, internal-signature, internal-rows, internal-pointers, internal-fine, internal-size, pointers-fit}
+use Rattle.btree_v2.proofs.Leaves.{product-fits, rows-end-fits, signature-there, node-in}
 use borrow.Author.Needs.{needs}
 use Rattle.btree_v2.proofs.collect.check_internal.Statement.{statement}
 use Rattle.btree_v2.proofs.collect.check_internal.Tie as tie

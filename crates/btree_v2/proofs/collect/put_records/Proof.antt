@@ -1,5 +1,5 @@
 -- `put_records` puts out as many records as fit.
-use Rattle.btree_v2.proofs.Putting.{part-there, part-room, rows-few, put-all, put-part}
+use Rattle.btree_v2.proofs.Putting.{part-there, rows-few, put-all, put-part}
 use borrow.Author.Needs.{needs}
 use Rattle.btree_v2.proofs.collect.put_records.Statement.{statement}
 use Rattle.btree_v2.proofs.collect.put_records.Tie as tie
@@ -14,9 +14,13 @@ put-records-spec =
     (λ c κs. search needs)
     (λ c. search needs)
     (λ c. search needs)
-    (λ c κs. search (part-there, part-room))
+    (λ c. search needs)
+    (λ c. search needs)
+    (λ c. search needs)
+    (λ c. search part-there)
+    (λ c κs. search needs)
     (λ c. search rows-few)
     (λ c. search needs)
-    (λ c. let entry = c .before .before .before .before .before .before .before .before .before in put-part _ _ _ _ _ _ (entry .pre .0) (entry .pre .1) (entry .pre .2) _ (c .before .before .before .before .before .before .fitting .ensures) _ (c .before .before .before .before .put-bytes .ensures) (c .if1 .taken))
+    (λ c. let entry = c .before .before .before .before .before .before .before .before .before .before in put-part _ _ _ _ _ _ (entry .pre .0) (entry .pre .1) (entry .pre .2) _ (c .before .before .before .before .before .before .before .fitting .ensures) _ (c .before .before .before .before .put-bytes .ensures) (c .if1 .taken))
     (λ c. search needs)
     (λ c. search put-all))

@@ -1,9 +1,9 @@
 -- The loop of `copy`: the first i bytes are copied.
-use Rattle.btree_v2_write.proofs.Nodes.{Copied, copied-start, copied-turn, copied-end}
+use Rattle.fields.proofs.Copying.{Copied, copied-start, copied-turn, copied-end}
 use Prim.Native.Nat.{_-_}
 use borrow.Author.Needs.{needs}
-use Rattle.btree_v2_write.proofs.copy.Statement.{statement}
-use Rattle.btree_v2_write.proofs.copy.Tie as tie
+use Rattle.fields.proofs.copy.Statement.{statement}
+use Rattle.fields.proofs.copy.Tie as tie
 
 abbrev Inv-loop : tie.InvT-loop
 Inv-loop to₀ from n i₀ to i = Copied to₀ from to i
@@ -24,4 +24,4 @@ copy-spec =
     (λ c. search needs)
     (λ c. copied-turn _ _ (c .before .before .before .pre) _ _ (c .before .before .loop .inv) (c .before .loop-test .taken))
     (λ c. search needs)
-    (λ c. copied-end _ _ (c .before .before .pre) _ _ (c .before .loop .inv) (c .loop-test .left)))
+    (λ c. search copied-end))

@@ -1,0 +1,137 @@
+-- A look at a leaf: what it hands out of a leaf that passed and of one that was refused, and that this is what collecting puts out.
+use mathlib.Core.Path.{_≡_, refl, sym}
+use mathlib.Core.Bool.{Bool, true, false}
+use mathlib.Core.List.{List, [], _∷_}
+use Prim.Native.Nat.{ℕ, zero, suc, _+_, _*_, _≤_, _<_}
+use native.Mathlib.Nat.{zero-add, mul-le-mul-right}
+use native.Mathlib.Omega.{arith}
+use lib.Dec.{ltb}
+use lib.ListN.{length}
+use borrow.Author.Needs.{zero≤}
+use borrow.Author.Tests.{ltb-true, le-leb, lt-leb, lt-ltb}
+use Rattle.fields.specs.Numbers.{pick, part}
+use Rattle.fields.specs.Places.{stored}
+use Rattle.fields.proofs.Lists.{length-part, part-part, part-past, stored-is}
+use Rattle.refusal.specs.Answer.{Answer, accepted, refused}
+use Rattle.format.specs.Bytes.{leafSignature}
+use Rattle.format.specs.Walk.{Counts, Run, fine, stopped, andThen, oneLeaf, Source, putRecord, putRecords, leafRun}
+use Rattle.format.specs.Writing.{over}
+use Rattle.format.specs.Reading.{same, leafTest, collectTests}
+use Rattle.format.specs.Look.{lookTest, lookBytes, recordOf, putBytes, putEach, recordAnswer, recordExit}
+use Rattle.format.proofs.Passing.{passed, there}
+
+module _ (file : List ℕ) (rs a n : ℕ) where
+  -- A leaf that passes has its records.
+  pub leaf-there : (figures : List ℕ) → leafTest file rs a n ≡ accepted figures → a + 6 + n * rs ≤ length file
+  unfolding leafTest
+  leaf-there figures e =
+      let p = there (a + 6) (length file) figures _ e in
+      let q = passed (same (part file a 4) leafSignature) 2 [] figures _ (p .1) in
+      there (a + 6 + n * rs) (length file) figures _ (q .1) .0
+
+  -- A look's tests are those of the leaf where a record has bytes.
+  pub look-leaf : 0 < rs → lookTest file rs a n ≡ leafTest file rs a n
+  unfolding lookTest
+  look-leaf h = rw (lt-ltb 0 rs h)
+
+  module _ (figures : List ℕ) (e : lookTest file rs a n ≡ accepted figures) where
+    look-passed : (0 < rs) × (leafTest file rs a n ≡ accepted figures)
+    unfolding lookTest
+    look-passed = let h = passed (ltb 0 rs) 8 [] figures (leafTest file rs a n) e in (ltb-true 0 rs (h .0), h .1)
+
+    look-part : lookBytes file rs a n ≡ part file (a + 6) (n * rs)
+    unfolding lookBytes
+    look-part = rw e
+
+    -- Record i of a leaf that passed has rs bytes, those from 6 + i * rs of the leaf on.
+    pub look-record : (i : ℕ) → i < n → recordOf (lookBytes file rs a n) rs n i ≡ part file (a + 6 + i * rs) rs
+    unfolding recordOf
+    look-record i h =
+        rw (lt-ltb i n h, look-part, part-part file (a + 6) (n * rs) (i * rs) rs (omega (arith, mul-le-mul-right rs h)))
+
+    pub look-record-length : (i : ℕ) → i < n → length (recordOf (lookBytes file rs a n) rs n i) ≡ rs
+    look-record-length i h =
+        rw (look-record i h, length-part file (a + 6 + i * rs) rs (omega (arith, mul-le-mul-right rs h, leaf-there figures (look-passed .1))))
+
+  -- Of a leaf that was refused nothing is handed out.
+  pub look-refused : (number : ℕ) (values : List ℕ) → lookTest file rs a n ≡ refused number values → (i : ℕ)
+      → recordOf (lookBytes file rs a n) rs n i ≡ []
+  unfolding recordOf lookBytes
+  look-refused number values e i = rw e (none (ltb i n))
+    where
+      none : (b : Bool) → pick {A = List ℕ} b (part [] (i * rs) rs) [] ≡ []
+      none true = part-past [] (i * rs) rs zero≤
+      none false = refl
+
+-- A run goes on alike by steps that are alike.
+then-same : (r : Run) (f g : Counts → List ℕ → Run) → ((c : Counts) (o : List ℕ) → f c o ≡ g c o) → andThen r f ≡ andThen r g
+then-same (fine c o) f g h = h c o
+then-same (stopped number values c o) f g h = refl
+
+-- Collecting of a leaf puts out what a look hands out, record after record; and it is refused as the look is.
+module _ (s : Source) (a n : ℕ) where
+  abbrev hand : ℕ → List ℕ
+  hand = recordOf (lookBytes (s .file) (s .rs) a n) (s .rs) n
+
+  module _ (figures : List ℕ) (e : lookTest (s .file) (s .rs) a n ≡ accepted figures) where
+    one : (i : ℕ) → i < n → (c : Counts) (o : List ℕ) → putRecord s (a + 6 + i * s .rs) c o ≡ putBytes (s .rs) (hand i) c o
+    unfolding putRecord putBytes
+    one i h c o = rw (look-record (s .file) (s .rs) a n figures e i h)
+
+    each : (m i : ℕ) → i + m ≡ n → (c : Counts) (o : List ℕ) → putRecords s m (a + 6 + i * s .rs) c o ≡ putEach (s .rs) hand m i c o
+    unfolding putRecords putEach
+    each zero i h c o = refl
+    each (suc m) i h c o =
+        let place : a + 6 + i * s .rs + s .rs ≡ a + 6 + (i + 1) * s .rs = omega arith in
+        rw (one i (omega arith) c o, place)
+        (then-same (putBytes (s .rs) (hand i) c o) _ _ (each m (i + 1) (omega arith)))
+
+    pub look-collected : (c : Counts) (o : List ℕ) → leafRun s (collectTests s) a n c o ≡ putEach (s .rs) hand n 0 (oneLeaf c) o
+    unfolding leafRun collectTests
+    look-collected c o =
+        let first : a + 6 + 0 * s .rs ≡ a + 6 = omega arith in
+        rw (look-passed (s .file) (s .rs) a n figures e .1, ← first) (each n 0 (zero-add n) (oneLeaf c) o)
+
+  pub look-stopped : (number : ℕ) (values : List ℕ) → 0 < s .rs → lookTest (s .file) (s .rs) a n ≡ refused number values → (c : Counts) (o : List ℕ)
+      → leafRun s (collectTests s) a n c o ≡ stopped number values c o
+  unfolding leafRun collectTests
+  look-stopped number values h e c o = rw (← look-leaf (s .file) (s .rs) a n h, e)
+
+no-length : (l : List ℕ) → length l ≡ 0 → l ≡ []
+no-length [] e = refl
+no-length (x ∷ l) e = absurd (omega arith)
+
+-- Record i copied to an output.
+module _ (file : List ℕ) (rs a n i : ℕ) (out : List ℕ) where
+  abbrev found : List ℕ
+  found = recordOf (lookBytes file rs a n) rs n i
+
+  -- A record that has bytes is of a leaf that passed.
+  pub some-passed : 0 < length found → (x : Answer) → x ≡ lookTest file rs a n → (figures : List ℕ) × (lookTest file rs a n ≡ accepted figures)
+  some-passed h (accepted figures) e = (figures, sym e)
+  some-passed h (refused number values) e =
+      let z : length found ≡ 0 = rw (look-refused file rs a n number values (sym e) i) in absurd (omega arith)
+
+  pub record-none : (x : Answer) → x ≡ lookTest file rs a n → x ≡ accepted [] → length found ≡ 0
+      → (recordAnswer file rs a n i out ≡ accepted (0 ∷ [])) × (recordExit file rs a n i out ≡ out)
+  unfolding recordAnswer recordExit over
+  record-none x e p z =
+      let f = no-length found z in
+      (rw (← e, p, f, le-leb 0 (length out) zero≤), rw (← e, p, f, le-leb 0 (length out) zero≤))
+
+  pub record-refused : (number : ℕ) (values : List ℕ) → refused number values ≡ lookTest file rs a n
+      → (recordAnswer file rs a n i out ≡ refused number values) × (recordExit file rs a n i out ≡ out)
+  unfolding recordAnswer recordExit
+  record-refused number values e = (rw (← e), rw (← e))
+
+  pub record-short : 0 < length found → length out < length found
+      → (recordAnswer file rs a n i out ≡ refused 15 (length out ∷ [])) × (recordExit file rs a n i out ≡ out)
+  unfolding recordAnswer recordExit
+  record-short h l =
+      let p = some-passed h (lookTest file rs a n) refl .1 in (rw (p, lt-leb _ _ l), rw (p, lt-leb _ _ l))
+
+  pub record-copied : 0 < length found → length found ≤ length out
+      → (recordAnswer file rs a n i out ≡ accepted (length found ∷ [])) × (recordExit file rs a n i out ≡ stored out 0 found)
+  unfolding recordAnswer recordExit over
+  record-copied h l =
+      let p = some-passed h (lookTest file rs a n) refl .1 in (rw (p, le-leb _ _ l), rw (p, le-leb _ _ l, stored-is, zero-add))
