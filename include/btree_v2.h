@@ -96,6 +96,18 @@ void btree_v2_collect(const uint8_t *file, size_t file_length, uint8_t tree_type
                       uint64_t answer[7]);
 #endif
 
+#ifdef BTREE_V2_HAS_LEAF_RECORD
+/*
+ * Copies record `index` of the leaf at `address` of the file, which has `count` records, to the
+ * front of the output; the record is empty where `index` is not below `count`. The output's other
+ * bytes stay. Answer: 0, length of the record, 0. Refusals in this order: 8, the leaf's as in
+ * collecting (1, 2, 1, 6), 15; nothing is written then.
+ */
+void btree_v2_leaf_record(const uint8_t *file, size_t file_length, uint64_t address, uint16_t count,
+                          uint16_t record_size, uint64_t index, uint8_t *output,
+                          size_t output_length, uint64_t answer[3]);
+#endif
+
 #ifdef __cplusplus
 }
 #endif

@@ -1,11 +1,11 @@
 //! The Rattle functions as a subject. The model stands in for a function that is not offered yet.
 
-use nuldrafon::btree_v2::{COLLECT, NODE_INFO, PARSE, PLAN, WRITE};
+use nuldrafon::btree_v2::{COLLECT, LEAF_RECORD, NODE_INFO, PARSE, PLAN, WRITE};
 
 use crate::model::{Geometry, Model};
 use crate::subject::{
-    Call, CollectAnswer, NodeInfoAnswer, ParseAnswer, PlanAnswer, Subject, Tree, WriteAnswer,
-    Writing,
+    Call, CollectAnswer, Leaf, LeafRecordAnswer, NodeInfoAnswer, ParseAnswer, PlanAnswer, Subject,
+    Tree, WriteAnswer, Writing,
 };
 
 pub struct Rattle;
@@ -18,6 +18,7 @@ impl Subject for Rattle {
             Call::Write => WRITE.is_none(),
             Call::Parse => PARSE.is_none(),
             Call::Collect => COLLECT.is_none(),
+            Call::LeafRecord => LEAF_RECORD.is_none(),
         }
     }
 
@@ -84,6 +85,26 @@ impl Subject for Rattle {
             tree.root_records,
             tree.total_records,
             tree.geometry.offset_size,
+            output,
+        )
+    }
+
+    fn leaf_record(
+        &self,
+        file: &[u8],
+        leaf: &Leaf,
+        index: u64,
+        output: &mut [u8],
+    ) -> LeafRecordAnswer {
+        let Some(leaf_record) = LEAF_RECORD else {
+            return Model.leaf_record(file, leaf, index, output);
+        };
+        leaf_record(
+            file,
+            leaf.address,
+            leaf.count,
+            leaf.record_size,
+            index,
             output,
         )
     }

@@ -1,4 +1,4 @@
-//! The five calls in the shape of the C functions, so that every comparison is written once.
+//! The six calls in the shape of the C functions, so that every comparison is written once.
 
 use crate::model::Geometry;
 
@@ -9,6 +9,7 @@ pub type PlanAnswer = [u64; 5];
 pub type WriteAnswer = [u64; 5];
 pub type ParseAnswer = [u64; 8];
 pub type CollectAnswer = [u64; 7];
+pub type LeafRecordAnswer = [u64; 3];
 
 /// What is given to a write, beside the two buffers.
 #[derive(Debug, Clone, Copy)]
@@ -48,7 +49,15 @@ impl Tree {
     }
 }
 
-/// Something that answers the five calls.
+/// What is given to a look at a leaf, beside the file, the record's index and the output.
+#[derive(Debug, Clone, Copy, PartialEq, Eq)]
+pub struct Leaf {
+    pub address: u64,
+    pub count: u16,
+    pub record_size: u16,
+}
+
+/// Something that answers the six calls.
 pub trait Subject: Sync {
     /// Whether the call is answered by the model.
     fn is_model(&self, call: Call) -> bool;
@@ -57,9 +66,16 @@ pub trait Subject: Sync {
     fn write(&self, given: &Writing, header: &mut [u8], image: &mut [u8]) -> WriteAnswer;
     fn parse(&self, file: &[u8], offset: u64, offset_size: u8, length_size: u8) -> ParseAnswer;
     fn collect(&self, file: &[u8], tree: &Tree, output: &mut [u8]) -> CollectAnswer;
+    fn leaf_record(
+        &self,
+        file: &[u8],
+        leaf: &Leaf,
+        index: u64,
+        output: &mut [u8],
+    ) -> LeafRecordAnswer;
 }
 
-/// One of the five calls.
+/// One of the six calls.
 #[derive(Debug, Clone, Copy, PartialEq, Eq)]
 pub enum Call {
     NodeInfo,
@@ -67,6 +83,7 @@ pub enum Call {
     Write,
     Parse,
     Collect,
+    LeafRecord,
 }
 
 impl Call {
@@ -77,6 +94,7 @@ impl Call {
             Call::Write => "write",
             Call::Parse => "parse",
             Call::Collect => "collect",
+            Call::LeafRecord => "leaf_record",
         }
     }
 
@@ -88,6 +106,7 @@ impl Call {
             Call::Write => &[4, 5, 7, 8, 9, 10, 11, 12, 13, 14, 15],
             Call::Parse => &[1, 2, 3, 4, 5, 6],
             Call::Collect => &[1, 2, 4, 6, 8, 15, 16],
+            Call::LeafRecord => &[1, 2, 6, 8, 15],
         }
     }
 }

@@ -7,6 +7,7 @@ pub type Plan = fn(u64, u16, u32, u8) -> [u64; 5];
 pub type Write = fn(u8, u64, u16, u32, u8, u8, u64, &[u8], &mut [u8], &mut [u8]) -> [u64; 5];
 pub type Parse = fn(&[u8], u64, u8, u8) -> [u64; 8];
 pub type Collect = fn(&[u8], u8, u32, u16, u16, u64, u16, u64, u8, &mut [u8]) -> [u64; 7];
+pub type LeafRecord = fn(&[u8], u64, u16, u16, u64, &mut [u8]) -> [u64; 3];
 
 /// What every place of an answer holds before the call, so that one that is left shows.
 #[allow(dead_code)]
@@ -27,6 +28,7 @@ offer!(PLAN: Plan, "plan", plan);
 offer!(WRITE: Write, "write", write);
 offer!(PARSE: Parse, "parse", parse);
 offer!(COLLECT: Collect, "collect", collect);
+offer!(LEAF_RECORD: LeafRecord, "leaf_record", leaf_record);
 
 /// The capacity table up to `depth`.
 #[cfg(offered = "node_info")]
@@ -144,6 +146,35 @@ pub fn collect(
             root_records,
             total_records,
             offset_size,
+            output.as_mut_ptr(),
+            output.len(),
+            &mut answer,
+        )
+    };
+    answer
+}
+
+/// Copies one record of the leaf at `address` of the file to the front of the output.
+#[cfg(offered = "leaf_record")]
+pub fn leaf_record(
+    file: &[u8],
+    address: u64,
+    count: u16,
+    record_size: u16,
+    index: u64,
+    output: &mut [u8],
+) -> [u64; 3] {
+    let mut answer = [UNSET; 3];
+    // SAFETY: each pointer goes over with its slice's length, both are lent for the whole call, and
+    // the output is lent to it alone.
+    unsafe {
+        crate::c::btree_v2_leaf_record(
+            file.as_ptr(),
+            file.len(),
+            address,
+            count,
+            record_size,
+            index,
             output.as_mut_ptr(),
             output.len(),
             &mut answer,

@@ -69,4 +69,17 @@ extern "C" {
         output_length: usize,
         answer: &mut [u64; 7],
     );
+
+    #[cfg(offered = "leaf_record")]
+    pub(crate) fn btree_v2_leaf_record(
+        file: *const u8,
+        file_length: usize,
+        address: u64,
+        count: u16,
+        record_size: u16,
+        index: u64,
+        output: *mut u8,
+        output_length: usize,
+        answer: &mut [u64; 3],
+    );
 }

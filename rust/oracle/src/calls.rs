@@ -7,7 +7,7 @@ use crate::{Header, Planned, Refusal, Table};
 use crate::NOT_RUN;
 #[cfg(hdf5_pure)]
 use crate::{
-    btree_v2::{self, collect_btree_v2_records, BTreeV2Header},
+    btree_v2::{self, collect_btree_v2_records, BTreeV2Header, BTreeV2Record},
     btree_v2_write::{self, BTreeV2Plan},
     error::FormatError,
 };
@@ -77,10 +77,29 @@ pub fn collect(
     length_size: u8,
 ) -> Result<Vec<Vec<u8>>, Refusal> {
     with_rust! {
-        collect_btree_v2_records(file, &rust_header(header), offset_size, length_size)
-            .map(|records| records.into_iter().map(|record| record.data).collect())
-            .map_err(refusal_of)
+        let header = rust_header(header);
+        apart(collect_btree_v2_records(file, &header, offset_size, length_size))
     }
+}
+
+/// The records of the leaf at `address` of `file`, which has `count` of them.
+pub fn leaf(
+    file: &[u8],
+    address: u64,
+    count: u16,
+    record_size: u16,
+) -> Result<Vec<Vec<u8>>, Refusal> {
+    with_rust! {
+        apart(btree_v2::reach::leaf(file, address as usize, count, record_size))
+    }
+}
+
+/// Each record by itself.
+#[cfg(hdf5_pure)]
+fn apart(records: Result<Vec<BTreeV2Record>, FormatError>) -> Result<Vec<Vec<u8>>, Refusal> {
+    records
+        .map(|records| records.into_iter().map(|record| record.data).collect())
+        .map_err(refusal_of)
 }
 
 #[cfg(hdf5_pure)]

@@ -72,4 +72,4 @@ macro_rules! with_rust {
 }
 
 mod calls;
-pub use calls::{collect, jenkins_lookup3, node_info, parse, plan, serialize};
+pub use calls::{collect, jenkins_lookup3, leaf, node_info, parse, plan, serialize};

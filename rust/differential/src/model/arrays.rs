@@ -1,9 +1,9 @@
 //! The model's answers in the shape of the C functions.
 
-use super::{collect, parse, plan, table, write, Answer, Geometry, Plan, LEVEL_LIMIT};
+use super::{collect, leaf_record, parse, plan, table, write, Answer, Geometry, Plan, LEVEL_LIMIT};
 use crate::subject::{
-    Call, CollectAnswer, NodeInfoAnswer, ParseAnswer, PlanAnswer, Subject, Tree, WriteAnswer,
-    Writing,
+    Call, CollectAnswer, Leaf, LeafRecordAnswer, NodeInfoAnswer, ParseAnswer, PlanAnswer, Subject,
+    Tree, WriteAnswer, Writing,
 };
 
 /// The model as a subject.
@@ -51,6 +51,16 @@ impl Subject for Model {
             counts.internals,
             counts.inner,
         ]
+    }
+
+    fn leaf_record(
+        &self,
+        file: &[u8],
+        leaf: &Leaf,
+        index: u64,
+        output: &mut [u8],
+    ) -> LeafRecordAnswer {
+        array(leaf_record(file, leaf, index, output).map(|length| [length]))
     }
 }
 

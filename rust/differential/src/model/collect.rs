@@ -1,11 +1,11 @@
 //! Collecting the records of a tree.
 
-use super::lookup3::lookup3;
+use super::leaf;
 use super::numbers::get;
 use super::plan::check_offset_size;
 use super::refusal::{self, require, Answer};
 use super::table::{table, Geometry, Table};
-use crate::subject::Tree;
+use crate::subject::{Leaf, Tree};
 
 /// What every collecting tells, refused or not.
 #[derive(Debug, Clone, Copy, Default, PartialEq, Eq)]
@@ -64,51 +64,31 @@ struct Walk<'a> {
     counts: &'a mut Counts,
 }
 
-impl<'a> Walk<'a> {
+impl Walk<'_> {
     fn node(&mut self, depth: u16, address: u64, count: u16) -> Answer<()> {
         match depth {
-            0 => self.leaf(address, count.into()),
+            0 => self.leaf(address, count),
             _ => self.internal(depth, address, count.into()),
         }
     }
 
-    /// The part of the file from a node on, whose first 6 bytes are there.
-    fn begins(&self, address: u64, signature: &[u8]) -> Answer<&'a [u8]> {
-        let end = u128::from(address) + 6;
-        require(
-            end <= self.file.len() as u128,
-            refusal::file_ends_early(end, self.file.len()),
-        )?;
-        let part = &self.file[address as usize..];
-        require(part.starts_with(signature), refusal::wrong_signature())?;
-        Ok(part)
-    }
-
-    fn leaf(&mut self, address: u64, count: usize) -> Answer<()> {
-        let part = self.begins(address, b"BTLF")?;
-        let end = 6 + count * self.record;
-        require(
-            end <= part.len(),
-            refusal::file_ends_early(u128::from(address) + end as u128, self.file.len()),
-        )?;
-        if part.len() - end >= 4 {
-            let stored = get(&part[end..end + 4]) as u32;
-            let computed = lookup3(&part[..end]);
-            require(
-                stored == computed,
-                refusal::checksum_differs(stored, computed),
-            )?;
-        }
+    fn leaf(&mut self, address: u64, count: u16) -> Answer<()> {
+        let leaf = Leaf {
+            address,
+            count,
+            record_size: self.geometry.record_size,
+        };
+        let records = leaf::records(self.file, &leaf)?;
         more(&mut self.counts.leaves);
-        for i in 0..count {
-            self.put(part, i)?;
+        for record in records.chunks(self.record) {
+            self.put(record)?;
         }
         Ok(())
     }
 
     /// An internal node. The figures of its later shortages are of the part from the node on.
     fn internal(&mut self, depth: u16, address: u64, count: usize) -> Answer<()> {
-        let part = self.begins(address, b"BTIN")?;
+        let part = leaf::begins(self.file, address, b"BTIN")?;
         let offset_size = self.geometry.offset_size;
         let pointer = self.table.pointer(self.geometry, depth.into()) as usize;
         let pointers = 6 + count * self.record;
@@ -126,23 +106,21 @@ impl<'a> Walk<'a> {
             let records = get(&rest[..self.table.w as usize]) % 65_536;
             self.node(depth - 1, get(address), records as u16)?;
             if i < count {
-                self.put(part, i)?;
+                self.put(&part[6 + i * self.record..][..self.record])?;
                 more(&mut self.counts.inner);
             }
         }
         Ok(())
     }
 
-    /// Puts out record i of the node that the part begins with.
-    fn put(&mut self, part: &[u8], i: usize) -> Answer<()> {
+    fn put(&mut self, record: &[u8]) -> Answer<()> {
         let length = self.output.len();
         let at = self.counts.records as usize * self.record;
         require(
             at + self.record <= length,
             refusal::output_too_short(length),
         )?;
-        let from = 6 + i * self.record;
-        self.output[at..at + self.record].copy_from_slice(&part[from..from + self.record]);
+        self.output[at..at + self.record].copy_from_slice(record);
         more(&mut self.counts.records);
         Ok(())
     }

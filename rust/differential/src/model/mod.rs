@@ -1,10 +1,11 @@
-//! A second implementation of the five calls, from document 01 alone: plain before quick.
+//! A second implementation of the six calls, from document 01 alone: plain before quick.
 //!
 //! It shares no code with the wrapper or the oracle. An answer is accepted figures or a refusal.
 
 mod arrays;
 mod collect;
 mod header;
+mod leaf;
 mod lookup3;
 mod numbers;
 mod plan;
@@ -15,6 +16,7 @@ mod write;
 pub use arrays::Model;
 pub use collect::{collect, Collected, Counts};
 pub use header::parse;
+pub use leaf::leaf_record;
 pub use lookup3::lookup3;
 pub use numbers::width;
 pub use plan::{plan, Node, Plan, MOST_RECORDS};
