@@ -109,7 +109,7 @@ fn made_up(sample: &Sample, random: &mut Random) -> Tree {
         match random.up_to(8) {
             0 => tree.depth = random.up_to(LEVEL_LIMIT.into()) as u16,
             1 => tree.root_records = random.any_magnitude(u16::MAX.into()) as u16,
-            2 => tree.root_address = any_address(sample, random),
+            2 => tree.root_address = sample.any_address(random),
             3 => tree.geometry.node_size = random.any_magnitude(u32::MAX.into()) as u32,
             4 => tree.geometry.record_size = random.any_magnitude(u16::MAX.into()) as u16,
             5 => tree.geometry.offset_size = random.up_to(255) as u8,
@@ -120,17 +120,6 @@ fn made_up(sample: &Sample, random: &mut Random) -> Tree {
         }
     }
     tree
-}
-
-/// A node's address, one in the file or somewhat after its end, or one near 2^64.
-fn any_address(sample: &Sample, random: &mut Random) -> u64 {
-    let node_size = u64::from(sample.tree.geometry.node_size);
-    let root = sample.tree.root_address;
-    match random.up_to(3) {
-        0 => random.up_to(sample.file.len() as u64 + 9),
-        1 => u64::MAX - random.any_magnitude(80),
-        _ => root - random.up_to((root - sample.image_at as u64) / node_size) * node_size,
-    }
 }
 
 /// Nodes that point at one another at random, deep ones and shared ones among them.

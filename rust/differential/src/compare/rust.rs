@@ -1,7 +1,7 @@
 //! The Rust's answers in the shape of the subjects', as far as it has them.
 
 use crate::model::{Geometry, LEVEL_LIMIT};
-use crate::subject::{NodeInfoAnswer, ParseAnswer, PlanAnswer, Tree, WriteAnswer, Writing};
+use crate::subject::{Leaf, NodeInfoAnswer, ParseAnswer, PlanAnswer, Tree, WriteAnswer, Writing};
 
 pub fn node_info(geometry: Geometry, depth: u16) -> NodeInfoAnswer {
     let table = oracle::node_info(
@@ -88,10 +88,17 @@ pub fn parse(file: &[u8], offset: u64, offset_size: u8, length_size: u8) -> Pars
 
 /// The records end to end, or the number and values of the refusal.
 pub fn collect(file: &[u8], tree: &Tree) -> Result<Vec<u8>, [u64; 3]> {
-    match collect_apart(file, tree) {
-        Ok(records) => Ok(records.concat()),
-        Err(refusal) => Err([refusal.number, refusal.values[0], refusal.values[1]]),
-    }
+    let records = collect_apart(file, tree).map_err(refused)?;
+    Ok(records.concat())
+}
+
+/// Each record of a leaf, or the number and values of the refusal.
+pub fn leaf(file: &[u8], leaf: &Leaf) -> Result<Vec<Vec<u8>>, [u64; 3]> {
+    oracle::leaf(file, leaf.address, leaf.count, leaf.record_size).map_err(refused)
+}
+
+fn refused(refusal: oracle::Refusal) -> [u64; 3] {
+    [refusal.number, refusal.values[0], refusal.values[1]]
 }
 
 /// The records as the Rust gives them, each by itself.

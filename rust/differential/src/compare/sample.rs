@@ -6,7 +6,7 @@ use super::bytes::repeated;
 use super::{grid, rust, Comparison, Held};
 use crate::model::{header_size, plan, Geometry, Plan};
 use crate::random::Random;
-use crate::subject::{Subject, Tree, Writing};
+use crate::subject::{Leaf, Subject, Tree, Writing};
 
 /// A file with one tree, and what was written.
 pub struct Sample {
@@ -81,6 +81,37 @@ impl Sample {
         let header = header_size(self.tree.geometry.offset_size, self.length_size);
         let last = self.tree.root_address as usize + self.tree.geometry.node_size as usize;
         [self.header_at..self.header_at + header, self.image_at..last]
+    }
+
+    /// The leaves of the image, from its first node on.
+    pub fn leaves(&self) -> Vec<Leaf> {
+        let Tree {
+            geometry,
+            total_records,
+            ..
+        } = self.tree;
+        let plan = plan(total_records, geometry).expect("the tree was written");
+        let places = (self.image_at as u64..).step_by(geometry.node_size as usize);
+        let nodes = plan.nodes(total_records).into_iter().zip(places);
+        nodes
+            .filter(|(node, _)| node.level == 0)
+            .map(|(node, address)| Leaf {
+                address,
+                count: node.records as u16,
+                record_size: geometry.record_size,
+            })
+            .collect()
+    }
+
+    /// A node's address, one in the file or somewhat after its end, or one near 2^64.
+    pub fn any_address(&self, random: &mut Random) -> u64 {
+        let node_size = u64::from(self.tree.geometry.node_size);
+        let root = self.tree.root_address;
+        match random.up_to(3) {
+            0 => random.up_to(self.file.len() as u64 + 9),
+            1 => u64::MAX - random.any_magnitude(80),
+            _ => root - random.up_to((root - self.image_at as u64) / node_size) * node_size,
+        }
     }
 }
 

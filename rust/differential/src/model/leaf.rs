@@ -1,4 +1,4 @@
-//! A look at one leaf: its checks, and the record at an index.
+//! A look at one leaf: its checks, the record at an index; and how any node begins.
 
 use super::lookup3::lookup3;
 use super::numbers::get;

@@ -6,7 +6,7 @@ use differential::compare::rust;
 use differential::model::{Geometry, Model};
 use differential::rattle::Rattle;
 use differential::report::with_rust;
-use differential::subject::{Subject, Tree, Writing};
+use differential::subject::{Leaf, Subject, Tree, Writing};
 
 /// A write of zeros.
 fn zeros(records: &[u8], record_count: u64, geometry: Geometry) -> Writing<'_> {
@@ -94,6 +94,14 @@ fn plans() {
     });
 }
 
+/// A leaf without records.
+fn empty_leaf() -> [u8; 40] {
+    let mut leaf = [0; 40];
+    let empty = zeros(&[], 0, Geometry::new(40, 8, 8));
+    assert_eq!(Model.write(&empty, &mut [0; 38], &mut leaf)[0], 0);
+    leaf
+}
+
 #[test]
 fn collecting() {
     with_rust("the Rust collects on where 8 and 16 refuse", || {
@@ -105,9 +113,7 @@ fn collecting() {
             root_records: 3,
             total_records: 3,
         };
-        let mut leaf = [0; 40];
-        let empty = zeros(&[], 0, Geometry::new(40, 8, 8));
-        assert_eq!(Model.write(&empty, &mut [0; 38], &mut leaf)[0], 0);
+        let leaf = empty_leaf();
         assert_eq!(Rattle.collect(&leaf, &tree, &mut [])[0], 8);
         assert_eq!(rust::collect_apart(&leaf, &tree), Ok(vec![vec![]; 3]));
 
@@ -116,5 +122,19 @@ fn collecting() {
         let answer = Rattle.collect(&leaf, &tree, &mut []);
         assert_eq!((answer[0], answer[1]), (16, 33));
         assert_eq!(rust::collect(&leaf, &tree), Err([2, 0, 0]));
+    });
+}
+
+#[test]
+fn looks_at_a_leaf() {
+    with_rust("the Rust reads a leaf on where 8 refuses", || {
+        let file = empty_leaf();
+        let leaf = Leaf {
+            address: 0,
+            count: 3,
+            record_size: 0,
+        };
+        assert_eq!(Rattle.leaf_record(&file, &leaf, 0, &mut []), [8, 0, 0]);
+        assert_eq!(rust::leaf(&file, &leaf), Ok(vec![vec![]; 3]));
     });
 }

@@ -4,7 +4,7 @@ use differential::compare::nodes::Form;
 use differential::model::{self, Geometry};
 use differential::rattle::Rattle;
 use differential::report::say;
-use differential::subject::{PlanAnswer, Subject, Tree, WriteAnswer, Writing};
+use differential::subject::{Leaf, PlanAnswer, Subject, Tree, WriteAnswer, Writing};
 
 const G40: Geometry = Geometry::new(40, 8, 8);
 
@@ -161,5 +161,15 @@ fn unchecked_leaf() {
     );
     assert_eq!(&output, b"record 1record 2");
     assert_eq!(Rattle.collect(&file, &tree, &mut output)[0], 6);
+
+    let leaf = Leaf {
+        address: 0,
+        count: 2,
+        record_size: 8,
+    };
+    let mut output = [0; 8];
+    assert_eq!(Rattle.leaf_record(cut, &leaf, 1, &mut output), [0, 8, 0]);
+    assert_eq!(&output, b"record 2");
+    assert_eq!(Rattle.leaf_record(&file, &leaf, 1, &mut output)[0], 6);
     say("figures: a leaf that ends 3 bytes after its records is not checked");
 }

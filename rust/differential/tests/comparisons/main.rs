@@ -4,6 +4,7 @@ mod checksum;
 mod differences;
 mod figures;
 mod hostile;
+mod leaf_faults;
 mod noticing;
 mod noticing_calls;
 mod oracle_figures;

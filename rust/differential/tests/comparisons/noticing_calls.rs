@@ -1,12 +1,14 @@
 //! The suites themselves: each notices an answer that is wrong at few places.
 
-use differential::compare::{collect, parse, plan, table, write, Comparison, Family};
+use differential::compare::{collect, leaf, parse, plan, table, write, Comparison, Family};
 use differential::model::{Geometry, Model};
 use differential::report::{rust_is_there, say};
 use differential::subject::{
-    Call, CollectAnswer, NodeInfoAnswer, ParseAnswer, PlanAnswer, Subject, Tree, WriteAnswer,
-    Writing,
+    Call, CollectAnswer, Leaf, LeafRecordAnswer, NodeInfoAnswer, ParseAnswer, PlanAnswer, Subject,
+    Tree, WriteAnswer, Writing,
 };
+
+use crate::leaf_faults;
 
 /// What goes wrong after a right answer.
 enum Fault {
@@ -15,6 +17,7 @@ enum Fault {
     Write(fn(&Writing, &mut WriteAnswer, &mut [u8], &mut [u8])),
     Parse(fn(&[u8], u64, &mut ParseAnswer)),
     Collect(fn(&Tree, &mut CollectAnswer, &mut [u8])),
+    LeafRecord(leaf_faults::Spoil),
 }
 
 impl Fault {
@@ -25,6 +28,7 @@ impl Fault {
             Fault::Write(_) => Call::Write,
             Fault::Parse(_) => Call::Parse,
             Fault::Collect(_) => Call::Collect,
+            Fault::LeafRecord(_) => Call::LeafRecord,
         }
     }
 }
@@ -80,6 +84,20 @@ impl Subject for Faulty {
         }
         answer
     }
+
+    fn leaf_record(
+        &self,
+        file: &[u8],
+        leaf: &Leaf,
+        index: u64,
+        output: &mut [u8],
+    ) -> LeafRecordAnswer {
+        let mut answer = Model.leaf_record(file, leaf, index, output);
+        if let Fault::LeafRecord(spoil) = self.fault {
+            spoil(file, leaf, index, &mut answer, output);
+        }
+        answer
+    }
 }
 
 /// The families of a call notice the fault.
@@ -95,6 +113,7 @@ fn noticed(name: &str, faulty: &Faulty) {
             collect::damaged,
             collect::of_random_graphs,
         ],
+        Call::LeafRecord => &[leaf::as_written, leaf::cut, leaf::with_made_up_numbers],
     };
     let held = Comparison::new(faulty, call).run(families, 1);
     let by = ["the model", "the Rust"][usize::from(faulty.passes_for_model)];
@@ -274,7 +293,11 @@ const MODEL_ALONE: [(&str, Fault); 7] = [
 
 #[test]
 fn wrong_answers() {
-    let (both, model_alone) = (BOTH, MODEL_ALONE);
+    let of_leaf = |(name, spoil)| (name, Fault::LeafRecord(spoil));
+    let mut both = Vec::from(BOTH);
+    both.extend(leaf_faults::BOTH.map(of_leaf));
+    let mut model_alone = Vec::from(MODEL_ALONE);
+    model_alone.extend(leaf_faults::MODEL_ALONE.map(of_leaf));
     let faults = both.len() + model_alone.len();
     for (name, fault) in model_alone {
         let passes_for_model = false;

@@ -68,6 +68,8 @@ fn round_trip() {
         assert_eq!(header, answer);
         let collected = oracle::collect(&file, &header, 8, 8).expect("its own tree is accepted");
         assert_eq!(collected.concat(), records);
+        let leaf = oracle::leaf(&file, 45, 2, 8).expect("its own leaf is accepted");
+        assert_eq!(leaf, [&records[..8], &records[8..16]]);
     });
 }
 
@@ -97,5 +99,12 @@ fn refusals() {
         assert_eq!(collected(&file[..300]), refused(1, [34, 15]));
         assert_eq!(collected(&damaged(45)), refused(2, [0, 0]));
         assert_eq!(collected(&damaged(51)).number, 6);
+
+        let read = |file: &[u8], address| oracle::leaf(file, address, 2, 8).expect_err("refused");
+        assert_eq!(read(&file[..50], 45), refused(1, [51, 50]));
+        assert_eq!(read(&file[..66], 45), refused(1, [67, 66]));
+        assert_eq!(read(&file, u64::MAX).values[0], u64::MAX);
+        assert_eq!(read(&damaged(45), 45), refused(2, [0, 0]));
+        assert_eq!(read(&damaged(51), 45).number, 6);
     });
 }

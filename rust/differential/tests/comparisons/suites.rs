@@ -1,6 +1,6 @@
 //! The suites: each call of the Rattle libraries held to the Rust and to the model.
 
-use differential::compare::{collect, parse, plan, table, write, Comparison, Family};
+use differential::compare::{collect, leaf, parse, plan, table, write, Comparison, Family};
 use differential::rattle::Rattle;
 use differential::report::{rust_is_there, say};
 use differential::subject::{Call, Subject};
@@ -90,4 +90,17 @@ fn collecting() {
 #[test]
 fn large_collecting() {
     suite(Call::Collect, &[collect::of_many_records], &[1, 6, 15]);
+}
+
+#[test]
+fn leaf_records() {
+    let families: [Family; 6] = [
+        leaf::as_written,
+        leaf::of_any_geometry,
+        leaf::cut,
+        leaf::damaged,
+        leaf::with_made_up_numbers,
+        leaf::of_many_bytes,
+    ];
+    suite(Call::LeafRecord, &families, Call::LeafRecord.refusals());
 }
