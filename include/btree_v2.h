@@ -11,6 +11,7 @@
 #define BTREE_V2_HAS_WRITE
 #define BTREE_V2_HAS_PARSE
 #define BTREE_V2_HAS_COLLECT
+#define BTREE_V2_HAS_LEAF_RECORD
 
 #ifdef __cplusplus
 extern "C" {
