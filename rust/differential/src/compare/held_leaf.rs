@@ -26,8 +26,8 @@ impl Look<'_> {
         (answer, output)
     }
 
-    /// What the Rust's records say: an index behind them is that of an empty one, and 15 comes where
-    /// the record is longer than the output.
+    /// What the Rust's records say: an index behind them is that of an empty one, and 15 comes
+    /// where the record is longer than the output.
     fn expected<'a>(&self, theirs: &'a Records) -> (LeafRecordAnswer, &'a [u8]) {
         let records = match theirs {
             Ok(records) => records,

@@ -14,8 +14,8 @@ const LOOKS: usize = 40;
 /// Leaves up to this long get every damage of a byte.
 const EVERY_DAMAGE: u64 = 26;
 
-/// Every leaf of the small trees: each record and some indexes behind the last, and outputs of every
-/// length up to that of a record.
+/// Every leaf of the small trees: each record and some indexes behind the last, and outputs of
+/// every length up to that of a record.
 pub fn as_written(to: &mut Comparison, random: &mut Random) -> Held {
     for_each(to, random, |to, sample, random| {
         for leaf in sample.leaves() {
