@@ -8,7 +8,7 @@ use native.Mathlib.Omega.{arith}
 use lib.Dec.{ltb}
 use lib.ListN.{length}
 use borrow.Author.Needs.{zero≤}
-use borrow.Author.Tests.{ltb-true, le-leb, lt-leb, lt-ltb}
+use borrow.Author.Tests.{ltb-true, le-leb, lt-leb, lt-ltb, le-ltb}
 use Rattle.fields.specs.Numbers.{pick, part}
 use Rattle.fields.specs.Places.{stored}
 use Rattle.fields.proofs.Lists.{length-part, part-part, part-past, stored-is}
@@ -52,6 +52,11 @@ module _ (file : List ℕ) (rs a n : ℕ) where
     pub look-record-length : (i : ℕ) → i < n → length (recordOf (lookBytes file rs a n) rs n i) ≡ rs
     look-record-length i h =
         rw (look-record i h, length-part file (a + 6 + i * rs) rs (omega (arith, mul-le-mul-right rs h, leaf-there figures (look-passed .1))))
+
+  -- From the count on nothing is handed out.
+  pub look-past : (i : ℕ) → n ≤ i → recordOf (lookBytes file rs a n) rs n i ≡ []
+  unfolding recordOf
+  look-past i h = rw (le-ltb i n h)
 
   -- Of a leaf that was refused nothing is handed out.
   pub look-refused : (number : ℕ) (values : List ℕ) → lookTest file rs a n ≡ refused number values → (i : ℕ)
