@@ -17,14 +17,16 @@ use Rattle.node_info.proofs.Columns.{total-entry}
 use Rattle.format.specs.Walk.{Run, fine, stopped, noCounts, nodeRun}
 use Rattle.format.specs.Reading.{collected, sourceOf, collectTests, countCells, runCells, runOutput}
 use Rattle.format.proofs.Outcomes.{collected-none, collected-root-none, collected-8, collected-16, collected-walk}
-use Rattle.btree_v2.specs.declared.BTreeV2Header.{BTreeV2Header}
-use Rattle.btree_v2.specs.declared.Verdict.{Verdict}
-use Rattle.btree_v2.specs.declared.Verdict.the-variants.{Accepted, Refused}
+use Rattle.btree_v2_header.specs.declared.BTreeV2Header.{BTreeV2Header}
+use Rattle.checks.specs.declared.Verdict.{Verdict}
+use Rattle.checks.specs.declared.Verdict.the-variants.{Accepted, Refused}
 use Rattle.btree_v2.specs.declared.Tally.{Tally}
 use Rattle.btree_v2.specs.declared.Collected.{Collected}
 use Rattle.btree_v2.specs.declared.collect.Sizes.{Sizes}
 use Rattle.btree_v2.specs.declared.collect.Node.{Node}
-use Rattle.btree_v2.specs.Answers.{fieldsOf, verdictOf, collectedCells}
+use Rattle.checks.specs.Verdicts.{verdictOf}
+use Rattle.btree_v2_header.specs.Answers.{fieldsOf}
+use Rattle.btree_v2.specs.Answers.{collectedCells}
 use Rattle.btree_v2.specs.Collecting.{countsOf, runOf, heldRun, sourceAt, Readable, Within, Walked, nodeWalk}
 use Rattle.btree_v2.proofs.Holding.{held-held}
 

@@ -19,14 +19,14 @@ use Rattle.format.specs.Bytes.{internalSignature}
 use Rattle.format.specs.Walk.{needs, pointerWidth, pointerPlace, childAddress, childRecords}
 use Rattle.format.specs.Reading.{same, internalTest}
 use Rattle.format.proofs.Passing.{passed, there}
-use Rattle.btree_v2.specs.declared.Verdict.{Verdict}
-use Rattle.btree_v2.specs.declared.Verdict.the-variants.{Accepted, Refused}
+use Rattle.checks.specs.declared.Verdict.{Verdict}
+use Rattle.checks.specs.declared.Verdict.the-variants.{Accepted, Refused}
 use Rattle.btree_v2.specs.declared.collect.Sizes.{Sizes}
 use Rattle.btree_v2.specs.declared.collect.Node.{Node}
-use Rattle.btree_v2.specs.Answers.{verdictOf}
+use Rattle.checks.specs.Verdicts.{verdictOf}
 use Rattle.btree_v2.specs.Collecting.{sourceAt, Readable}
-use Rattle.btree_v2.proofs.Leaves.{front-there}
-use Rattle.btree_v2.proofs.Checks.{bytes-there, bytes-missing, test-holds, test-fails}
+use Rattle.btree_v2_leaf.proofs.Leaves.{front-there}
+use Rattle.checks.proofs.Checks.{bytes-there, bytes-missing, test-holds, test-fails}
 
 module _ (file : List ℕ) (z : Sizes) (x : Node) where
   -- The bytes of the node's records, and the file from the node on.

@@ -7,14 +7,14 @@ ghost use lib.ListN.{length};
 ghost use Rattle.refusal.specs.Answer.{accepted};
 ghost use Rattle.format.specs.Walk.{oneLeaf, oneInternal, oneInner, putRecords, innerRun, nodeRun, pointerWidth, pointerPlace, childAddress, childRecords};
 ghost use Rattle.format.specs.Reading.{internalTest, collected, runCells, runOutput};
-ghost use Rattle.btree_v2.specs.Answers.{fieldsOf, verdictOf, collectedCells};
+ghost use Rattle.checks.specs.Verdicts.{verdictOf};
+ghost use Rattle.btree_v2_header.specs.Answers.{fieldsOf};
+ghost use Rattle.btree_v2.specs.Answers.{collectedCells};
 ghost use Rattle.btree_v2.specs.Collecting.{countsOf, heldCounts, sourceAt, Readable, Within, Walked, nodeWalk, innerWalk, childStep};
-use crate::BTreeV2Header;
 use crate::Collected;
 use crate::Tally;
-use crate::Verdict;
-use crate::check;
-use crate::leaf;
+use btree_v2_header::BTreeV2Header;
+use checks::Verdict;
 use node_info::NodeInfo;
 use refusal::Refusal;
 
@@ -122,7 +122,7 @@ fn collect_leaf(file: &[u8], sizes: Sizes, node: Node, tally: Tally, output: &mu
     requires { ⌜ (0 < sizes .«record_size») × (Within sizes tally (now output)) ⌝ }
     ensures { λ r. ⌜ Walked sizes (nodeWalk (now (file .entry)) sizes 0 node (countsOf tally) (now (output .entry))) r (now (output .exit)) ⌝ }
 {
-    let verdict = leaf::check_leaf(file, node.address, node.records, sizes.record_size);
+    let verdict = btree_v2_leaf::check_leaf(file, node.address, node.records, sizes.record_size);
     let Verdict::Accepted = verdict else {
         return Collected { verdict, tally };
     };
@@ -148,22 +148,22 @@ fn check_internal(
     requires { ⌜ Readable sizes (now «total_sizes») under ⌝ }
     ensures { λ r. ⌜ verdictOf r ≡ internalTest (sourceAt (now (file .entry)) sizes) under (node .address) (node .records) ⌝ }
 {
-    let front = check::ensure_len(file, node.address, 6);
+    let front = checks::ensure_len(file, node.address, 6);
     let Verdict::Accepted = front else {
         return front;
     };
     let at = node.address as usize;
-    if !check::has_signature(file, at, b'I', b'N') {
+    if !checks::has_signature(file, at, b'I', b'N') {
         return Verdict::Refused(Refusal::InvalidBTreeV2Signature);
     }
     let rest = &file[at..];
     let bytes = (node.records as u64) * (sizes.record_size as u64);
-    let records = check::ensure_len(rest, 6, bytes);
+    let records = checks::ensure_len(rest, 6, bytes);
     let Verdict::Accepted = records else {
         return records;
     };
     let wide = pointer_size(sizes, total_sizes[under]) as u64;
-    let pointers = check::ensure_len(rest, 6 + bytes, ((node.records as u64) + 1) * wide);
+    let pointers = checks::ensure_len(rest, 6 + bytes, ((node.records as u64) + 1) * wide);
     let Verdict::Accepted = pointers else {
         return pointers;
     };

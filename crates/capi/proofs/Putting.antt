@@ -22,13 +22,15 @@ use Rattle.plan.specs.declared.BTreeV2Plan.{BTreeV2Plan}
 use Rattle.plan.specs.declared.PlanAnswer.{PlanAnswer}
 use Rattle.plan.specs.declared.PlanAnswer.the-variants.{Planned}
 use Rattle.plan.specs.Planned.{planAnswerOf}
-use Rattle.btree_v2.specs.declared.BTreeV2Header.{BTreeV2Header}
-use Rattle.btree_v2.specs.declared.HeaderAnswer.{HeaderAnswer}
-use Rattle.btree_v2.specs.declared.HeaderAnswer.the-variants.{Parsed}
+use Rattle.btree_v2_header.specs.declared.BTreeV2Header.{BTreeV2Header}
+use Rattle.btree_v2_header.specs.declared.HeaderAnswer.{HeaderAnswer}
+use Rattle.btree_v2_header.specs.declared.HeaderAnswer.the-variants.{Parsed}
 use Rattle.btree_v2.specs.declared.Collected.{Collected}
-use Rattle.btree_v2.specs.declared.Verdict as btree
-use Rattle.btree_v2.specs.declared.Verdict.the-variants as verdict
-use Rattle.btree_v2.specs.Answers.{headerAnswerOf, verdictOf, collectedCells}
+use Rattle.checks.specs.declared.Verdict as btree
+use Rattle.checks.specs.declared.Verdict.the-variants as verdict
+use Rattle.checks.specs.Verdicts.{verdictOf}
+use Rattle.btree_v2_header.specs.Answers.{headerAnswerOf}
+use Rattle.btree_v2.specs.Answers.{collectedCells}
 
 -- The first i numbers are zeros.
 abbrev pub Cleared : List ℕ → List ℕ → ℕ → Type 0

@@ -11,9 +11,9 @@ use Rattle.refusal.specs.Answer.{accepted, refused, cells}
 use Rattle.refusal.proofs.Answers.{refused-is}
 use Rattle.format.specs.Look.{lookTest, lookBytes, recordOf, recordAnswer, recordExit}
 use Rattle.format.proofs.Looking.{record-none, record-refused, record-short, record-copied}
-use Rattle.btree_v2.specs.declared.Verdict.{Verdict}
-use Rattle.btree_v2.specs.declared.Verdict.the-variants.{Accepted, Refused}
-use Rattle.btree_v2.specs.Answers.{verdictOf}
+use Rattle.checks.specs.declared.Verdict.{Verdict}
+use Rattle.checks.specs.declared.Verdict.the-variants.{Accepted, Refused}
+use Rattle.checks.specs.Verdicts.{verdictOf}
 
 module _ (file : List ℕ) (rs a n i : ℕ) (out r : List ℕ) (got : r ≡ recordOf (lookBytes file rs a n) rs n i) where
   -- The array and the output at exit are those of the definition.

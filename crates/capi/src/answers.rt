@@ -7,9 +7,11 @@ ghost use Rattle.fields.specs.Places.{stored};
 ghost use Rattle.refusal.specs.Answer.{refusalOf, cells};
 ghost use Rattle.node_info.specs.Table.{tableAnswer};
 ghost use Rattle.plan.specs.Planned.{planAnswerOf};
-ghost use Rattle.btree_v2.specs.Answers.{headerAnswerOf, verdictOf, collectedCells};
+ghost use Rattle.checks.specs.Verdicts.{verdictOf};
+ghost use Rattle.btree_v2_header.specs.Answers.{headerAnswerOf};
+ghost use Rattle.btree_v2.specs.Answers.{collectedCells};
 use btree_v2::Collected;
-use btree_v2::HeaderAnswer;
+use btree_v2_header::HeaderAnswer;
 use node_info::NodeInfoAnswer;
 use node_info::Verdict;
 use plan::PlanAnswer;
@@ -126,7 +128,7 @@ pub(crate) fn put_collected(answer: &mut [u64; 7], collected: Collected)
     let verdict = collected.verdict;
     let tally = collected.tally;
     match verdict {
-        btree_v2::Verdict::Accepted => {
+        checks::Verdict::Accepted => {
             *answer = [
                 0,
                 0,
@@ -137,7 +139,7 @@ pub(crate) fn put_collected(answer: &mut [u64; 7], collected: Collected)
                 tally.inner,
             ];
         }
-        btree_v2::Verdict::Refused(cause) => {
+        checks::Verdict::Refused(cause) => {
             let told = cause.told();
             *answer = [
                 told.number,
@@ -153,13 +155,13 @@ pub(crate) fn put_collected(answer: &mut [u64; 7], collected: Collected)
 }
 
 // The refusal's number and values, zeros where there is none.
-pub(crate) fn put_verdict(answer: &mut [u64; 3], verdict: btree_v2::Verdict)
+pub(crate) fn put_verdict(answer: &mut [u64; 3], verdict: checks::Verdict)
     ensures { λ _. ⌜ now (answer .exit) ≡ cells 3 (verdictOf verdict) ⌝ }
 {
     match verdict {
-        btree_v2::Verdict::Accepted => {
+        checks::Verdict::Accepted => {
             *answer = [0, 0, 0];
         }
-        btree_v2::Verdict::Refused(cause) => put_refusal(answer, cause),
+        checks::Verdict::Refused(cause) => put_refusal(answer, cause),
     }
 }

@@ -10,7 +10,7 @@ ghost use Rattle.format.specs.Reading.{parsed, collected, runCells, runOutput};
 ghost use Rattle.format.specs.Look.{recordAnswer, recordExit};
 ghost use Rattle.btree_v2_write.specs.Call.{asked};
 ghost use Rattle.capi.specs.Given.{given};
-use btree_v2::BTreeV2Header;
+use btree_v2_header::BTreeV2Header;
 use node_info::NodeInfo;
 use plan::BTreeV2Plan;
 use refusal::Refusal;
@@ -144,10 +144,10 @@ pub extern "C" fn btree_v2_leaf_record(
     ensures answered { λ _. ⌜ now (answer .exit) ≡ cells 3 (recordAnswer (now (file .entry)) «record_size» address count index (now (output .entry))) ⌝ }
     ensures outputLeft { λ _. ⌜ now (output .exit) ≡ recordExit (now (file .entry)) «record_size» address count index (now (output .entry)) ⌝ }
 {
-    let record = btree_v2::leaf::leaf_record(file, address, count, record_size, index);
+    let record = btree_v2_leaf::leaf_record(file, address, count, record_size, index);
     let length = record.len();
     if length == 0 {
-        let verdict = btree_v2::leaf::check_view(file, address, count, record_size);
+        let verdict = btree_v2_leaf::check_view(file, address, count, record_size);
         answers::put_verdict(answer, verdict);
         return;
     }

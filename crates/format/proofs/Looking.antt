@@ -1,5 +1,5 @@
 -- A look at a leaf: what it hands out of a leaf that passed and of one that was refused, and that this is what collecting puts out.
-use mathlib.Core.Path.{_≡_, refl, sym}
+use mathlib.Core.Path.{_≡_, refl, sym, _∙_}
 use mathlib.Core.Bool.{Bool, true, false}
 use mathlib.Core.List.{List, [], _∷_}
 use Prim.Native.Nat.{ℕ, zero, suc, _+_, _*_, _≤_, _<_}
@@ -19,6 +19,24 @@ use Rattle.format.specs.Writing.{over}
 use Rattle.format.specs.Reading.{same, leafTest, collectTests}
 use Rattle.format.specs.Look.{lookTest, lookBytes, recordOf, putBytes, putEach, recordAnswer, recordExit}
 use Rattle.format.proofs.Passing.{passed, there}
+
+-- Record i below the count, and from the count on.
+picked : (b : Bool) (x : List ℕ) → b ≡ true → pick b x [] ≡ x
+picked true x e = refl
+picked false x e = cc
+
+unpicked : (b : Bool) (x : List ℕ) → b ≡ false → pick b x [] ≡ []
+unpicked true x e = cc
+unpicked false x e = refl
+
+module _ (bytes : List ℕ) (rs n i : ℕ) where
+  record-below : i < n → recordOf bytes rs n i ≡ part bytes (i * rs) rs
+  unfolding recordOf
+  record-below h = picked (ltb i n) (part bytes (i * rs) rs) (lt-ltb i n h)
+
+  record-past : n ≤ i → recordOf bytes rs n i ≡ []
+  unfolding recordOf
+  record-past h = unpicked (ltb i n) (part bytes (i * rs) rs) (le-ltb i n h)
 
 module _ (file : List ℕ) (rs a n : ℕ) where
   -- A leaf that passes has its records.
@@ -45,9 +63,9 @@ module _ (file : List ℕ) (rs a n : ℕ) where
 
     -- Record i of a leaf that passed has rs bytes, those from 6 + i * rs of the leaf on.
     pub look-record : (i : ℕ) → i < n → recordOf (lookBytes file rs a n) rs n i ≡ part file (a + 6 + i * rs) rs
-    unfolding recordOf
     look-record i h =
-        rw (lt-ltb i n h, look-part, part-part file (a + 6) (n * rs) (i * rs) rs (omega (arith, mul-le-mul-right rs h)))
+        record-below (lookBytes file rs a n) rs n i h
+        ∙ rw (look-part, part-part file (a + 6) (n * rs) (i * rs) rs (omega (arith, mul-le-mul-right rs h)))
 
     pub look-record-length : (i : ℕ) → i < n → length (recordOf (lookBytes file rs a n) rs n i) ≡ rs
     look-record-length i h =
@@ -55,8 +73,7 @@ module _ (file : List ℕ) (rs a n : ℕ) where
 
   -- From the count on nothing is handed out.
   pub look-past : (i : ℕ) → n ≤ i → recordOf (lookBytes file rs a n) rs n i ≡ []
-  unfolding recordOf
-  look-past i h = rw (le-ltb i n h)
+  look-past i h = record-past (lookBytes file rs a n) rs n i h
 
   -- Of a leaf that was refused nothing is handed out.
   pub look-refused : (number : ℕ) (values : List ℕ) → lookTest file rs a n ≡ refused number values → (i : ℕ)

@@ -8,10 +8,10 @@ use crate::collect_answers::COLLECT_ROWS;
 use crate::rows;
 use crate::rows::MARK;
 use crate::tally::Tally;
-use btree_v2::BTreeV2Header;
 use btree_v2::Collected;
-use btree_v2::Verdict;
 use btree_v2::collect;
+use btree_v2_header::BTreeV2Header;
+use checks::Verdict;
 use refusal::Told;
 
 // The three numbers of a verdict.

@@ -1,4 +1,4 @@
-// The stored headers, good and damaged, run through `btree_v2::BTreeV2Header::parse`; each answer is counted once.
+// The stored headers, good and damaged, run through `btree_v2_header::BTreeV2Header::parse`; each answer is counted once.
 ghost use mathlib.Core.Path.{_≡_};
 ghost use Prim.Native.Nat.{_+_, _<_};
 ghost use lib.ListN.{length};
@@ -6,8 +6,8 @@ use crate::header_answers::HEADER_BYTES;
 use crate::header_answers::HEADER_ROWS;
 use crate::rows;
 use crate::tally::Tally;
-use btree_v2::BTreeV2Header;
-use btree_v2::HeaderAnswer;
+use btree_v2_header::BTreeV2Header;
+use btree_v2_header::HeaderAnswer;
 use refusal::Refusal;
 
 // A refusal's eight numbers.

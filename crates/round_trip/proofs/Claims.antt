@@ -23,14 +23,16 @@ use Rattle.format.proofs.Collected.{image-long}
 use Rattle.format.proofs.HeaderReturn.{length-headerOf}
 use Rattle.format.proofs.Outcomes.{header-put, image-put}
 use Rattle.format.proofs.Returned.{returns}
-use Rattle.btree_v2.specs.declared.BTreeV2Header.{BTreeV2Header}
-use Rattle.btree_v2.specs.declared.HeaderAnswer.{HeaderAnswer}
-use Rattle.btree_v2.specs.declared.HeaderAnswer.the-variants as header
-use Rattle.btree_v2.specs.declared.Verdict.{Verdict}
-use Rattle.btree_v2.specs.declared.Verdict.the-variants as verdict
+use Rattle.btree_v2_header.specs.declared.BTreeV2Header.{BTreeV2Header}
+use Rattle.btree_v2_header.specs.declared.HeaderAnswer.{HeaderAnswer}
+use Rattle.btree_v2_header.specs.declared.HeaderAnswer.the-variants as header
+use Rattle.checks.specs.declared.Verdict.{Verdict}
+use Rattle.checks.specs.declared.Verdict.the-variants as verdict
 use Rattle.btree_v2.specs.declared.Tally.{Tally}
 use Rattle.btree_v2.specs.declared.Collected.{Collected}
-use Rattle.btree_v2.specs.Answers.{fieldsOf, headerAnswerOf, verdictOf, collectedCells}
+use Rattle.checks.specs.Verdicts.{verdictOf}
+use Rattle.btree_v2_header.specs.Answers.{fieldsOf, headerAnswerOf}
+use Rattle.btree_v2.specs.Answers.{collectedCells}
 use Rattle.btree_v2_write.specs.Call.{Wrote}
 use Rattle.round_trip.specs.declared.RoundTrip.{RoundTrip}
 use Rattle.round_trip.specs.Trip.{Lent, headerFrom, onHeader, readBack, Holds, Complete, Tripped}

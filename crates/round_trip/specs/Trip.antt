@@ -13,7 +13,9 @@ use Rattle.format.specs.Writing.{Request, depthOf, nodesOf, rootOf, rootRecords
 use Rattle.format.specs.Walk.{Run, stopped, noCounts}
 use Rattle.format.specs.Reading
 use Rattle.format.specs.Reading.{Header, runCells, runOutput}
-use Rattle.btree_v2.specs.Answers.{headerAnswerOf, verdictOf, collectedCells}
+use Rattle.checks.specs.Verdicts.{verdictOf}
+use Rattle.btree_v2_header.specs.Answers.{headerAnswerOf}
+use Rattle.btree_v2.specs.Answers.{collectedCells}
 use Rattle.round_trip.specs.declared.RoundTrip.{RoundTrip}
 
 -- What the three calls are lent: the record list, the header buffer, the image buffer, the file, the place of the header in it, and the output.

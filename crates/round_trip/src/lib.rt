@@ -2,11 +2,11 @@
 
 ghost use Rattle.btree_v2_write.specs.Call.{asked};
 ghost use Rattle.round_trip.specs.Trip.{Tripped};
-use btree_v2::BTreeV2Header;
 use btree_v2::Collected;
-use btree_v2::HeaderAnswer;
 use btree_v2::Tally;
-use btree_v2::Verdict;
+use btree_v2_header::BTreeV2Header;
+use btree_v2_header::HeaderAnswer;
+use checks::Verdict;
 use plan::PlanAnswer;
 
 // The three calls' answers. Where the header is refused, nothing is collected and the verdict is that refusal.

@@ -1,6 +1,6 @@
 -- `check_internal` makes its tests in their order.
 use Rattle.btree_v2.proofs.Nodes.{internal-front, internal-signature, internal-rows, internal-pointers, internal-fine, internal-size, pointers-fit}
-use Rattle.btree_v2.proofs.Leaves.{product-fits, rows-end-fits, signature-there, node-in}
+use Rattle.btree_v2_leaf.proofs.Leaves.{product-fits, rows-end-fits, node-in}
 use borrow.Author.Needs.{needs}
 use Rattle.btree_v2.proofs.collect.check_internal.Statement.{statement}
 use Rattle.btree_v2.proofs.collect.check_internal.Tie as tie
@@ -13,7 +13,7 @@ check-internal-spec =
     (λ c. search needs)
     (λ c. search needs)
     (λ c. search internal-front)
-    (λ c κs. search signature-there)
+    (λ c κs. search needs)
     (λ c. search internal-signature)
     (λ c. search node-in)
     (λ c. search node-in)

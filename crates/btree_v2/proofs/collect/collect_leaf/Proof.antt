@@ -1,5 +1,5 @@
 -- `collect_leaf` makes the tests, and then puts the records out.
-use Rattle.btree_v2.proofs.Leaves.{leaf-there, leaf-fits}
+use Rattle.btree_v2_leaf.proofs.Leaves.{leaf-there, leaf-fits}
 use Rattle.btree_v2.proofs.Steps.{leaf-stops, leaf-reads, leaf-within}
 use borrow.Author.Needs.{needs}
 use Rattle.btree_v2.proofs.collect.collect_leaf.Statement.{statement}

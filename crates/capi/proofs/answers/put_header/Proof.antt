@@ -1,6 +1,6 @@
 -- `put_header`: the fields, or the refusal.
 use mathlib.Core.Path.{ap, sym}
-use Rattle.btree_v2.specs.Answers.{headerAnswerOf}
+use Rattle.btree_v2_header.specs.Answers.{headerAnswerOf}
 use Rattle.capi.proofs.Putting.{header-put, put-is}
 use borrow.Author.Needs.{needs}
 use Rattle.capi.proofs.answers.put_header.Statement.{statement}

@@ -1,6 +1,6 @@
 -- `put_verdict`: zeros, or the refusal.
 use mathlib.Core.Path.{ap, sym}
-use Rattle.btree_v2.specs.Answers.{verdictOf}
+use Rattle.checks.specs.Verdicts.{verdictOf}
 use Rattle.capi.proofs.Putting.{verdict-put, put-is}
 use borrow.Author.Needs.{needs}
 use Rattle.capi.proofs.answers.put_verdict.Statement.{statement}

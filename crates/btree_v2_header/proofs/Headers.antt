@@ -1,0 +1,160 @@
+-- The header reader: what each way out of its tests makes of `parsed`, and the fields.
+use mathlib.Core.Path.{_≡_}
+use mathlib.Core.Bool.{true, false}
+use mathlib.Core.List.{List, [], _∷_}
+use Prim.Native.Nat.{ℕ, _+_, _^_, _≤_, _<_, min}
+use native.Mathlib.Omega.{arith}
+use lib.ListN.{length, getD}
+use mir.Syntax.{w16, w32, w64}
+use mir.Val.{Fits}
+use borrow.Author.Tests.{le-leb, ne-eqb}
+use Rattle.fields.specs.Numbers.{part, num, unle, fieldSize}
+use Rattle.fields.proofs.Lists.{part-cons}
+use Rattle.fields.proofs.Numbers.{num-lt, field-size-le}
+use Rattle.refusal.specs.declared.Refusal.{Refusal}
+use Rattle.refusal.specs.Answer.{Answer, accepted, refused, refusalOf, orElse}
+use Rattle.format.specs.Bytes.{headerSignature}
+use Rattle.format.specs.Walk.{needs}
+use Rattle.format.specs.Reading.{same, Header, headerFigures, headerAt, checksumTest, parsed}
+use Rattle.checks.specs.declared.Verdict.{Verdict}
+use Rattle.checks.specs.declared.Verdict.the-variants.{Accepted, Refused}
+use Rattle.checks.specs.Verdicts.{verdictOf}
+use Rattle.btree_v2_header.specs.Parsing.{Begun}
+use Rattle.checks.proofs.Checks.{bytes-missing, sum-right, sum-wrong}
+
+-- A number in one byte.
+num-1 : (l : List ℕ) (p : ℕ) → p < length l → num l p 1 ≡ getD l p 0
+unfolding num unle
+num-1 l p h = rw (part-cons l p 0 0 h) (omega arith)
+
+-- Where the tests up to that of the offset size have passed.
+pub begun : (file : List ℕ) (o ow : ℕ) → o + 16 ≤ length file → same (part file o 4) headerSignature ≡ true
+    → getD file (o + 4) 0 ≡ 0 → fieldSize ow ≡ true → Begun file o ow
+begun file o ow h s z f =
+    record { there = h; signature = s; version = rw (num-1 file (o + 4) (omega arith), z); size = f }
+
+module _ (file : List ℕ) (o ow lw : ℕ) where
+  -- What `ensure_len` says of `count` bytes from o on; and that a refusal for want of these is the answer.
+  abbrev Told : ℕ → Verdict → Type 0
+  Told count v = verdictOf v ≡ needs (o + count) (length file) (accepted [])
+
+  abbrev Stop : ℕ → Type 0
+  Stop count = (v : Verdict) (r : Refusal) → v ≡ Refused r → Told count v → refusalOf r ≡ parsed file o ow lw
+
+  missing : (count : ℕ) (v : Verdict) (r : Refusal) → v ≡ Refused r → Told count v → (rest : Answer)
+      → needs (o + count) (length file) rest ≡ refusalOf r
+  missing count v r e h = bytes-missing (o + count) (length file) v h r e
+
+  -- The tests up to that of the offset size.
+  pub stop-start : Stop 4
+  unfolding parsed
+  stop-start v r e h = rw (missing 4 v r e h)
+
+  module _ (h4 : o + 4 ≤ length file) where
+    pub stop-signature : same (part file o 4) headerSignature ≡ false → refused 2 [] ≡ parsed file o ow lw
+    unfolding parsed
+    stop-signature x = rw (le-leb _ _ h4, x)
+
+    module _ (signed : same (part file o 4) headerSignature ≡ true) where
+      pub stop-fixed : Stop 16
+      unfolding parsed
+      stop-fixed v r e h = rw (le-leb _ _ h4, signed, missing 16 v r e h)
+
+      module _ (h16 : o + 16 ≤ length file) where
+        version : num file (o + 4) 1 ≡ getD file (o + 4) 0
+        version = num-1 file (o + 4) (omega arith)
+
+        pub stop-version : (x : ℕ) → x ≡ getD file (o + 4) 0 → (x ≡ 0 → ⊥) → refused 3 (x ∷ []) ≡ parsed file o ow lw
+        unfolding parsed
+        stop-version x e d = rw (le-leb _ _ h4, signed, le-leb _ _ h16, version, ← e, ne-eqb _ _ d)
+
+        module _ (z : getD file (o + 4) 0 ≡ 0) where
+          pub stop-offset-size : fieldSize ow ≡ false → refused 4 (ow ∷ []) ≡ parsed file o ow lw
+          unfolding parsed
+          stop-offset-size x = rw (le-leb _ _ h4, signed, le-leb _ _ h16, version, z, x)
+
+  -- The tests from there on, with the ends as the code has them.
+  module _ (b : Begun file o ow) where
+    tests : Answer
+    tests =
+        needs (o + (16 + ow)) (length file)
+        (needs (o + (16 + ow + 2)) (length file)
+        (orElse (fieldSize lw) (refused 5 (lw ∷ []))
+        (needs (o + (16 + ow + 2 + lw)) (length file)
+        (needs (o + (16 + ow + 2 + lw + 4)) (length file)
+        (checksumTest file o (o + (16 + ow + 2 + lw)) (accepted (headerFigures (headerAt file o ow lw))))))))
+
+    begins : parsed file o ow lw ≡ tests
+    unfolding parsed tests
+    begins =
+        let e1 : o + (16 + ow) ≡ o + 16 + ow = omega arith in
+        let e2 : o + (16 + ow + 2) ≡ o + 18 + ow = omega arith in
+        let e3 : o + (16 + ow + 2 + lw) ≡ o + 18 + ow + lw = omega arith in
+        let e4 : o + (16 + ow + 2 + lw + 4) ≡ o + 22 + ow + lw = omega arith in
+        rw (le-leb (o + 4) (length file) (omega (arith, b .there)), b .signature, le-leb _ _ (b .there), b .version, b .size, e1, e2, e3, e4)
+
+    pub stop-root : Stop (16 + ow)
+    unfolding tests
+    stop-root v r e h = rw (begins, missing (16 + ow) v r e h)
+
+    module _ (h1 : o + (16 + ow) ≤ length file) where
+      pub stop-count : Stop (16 + ow + 2)
+      unfolding tests
+      stop-count v r e h = rw (begins, le-leb _ _ h1, missing (16 + ow + 2) v r e h)
+
+      module _ (h2 : o + (16 + ow + 2) ≤ length file) where
+        pub stop-length-size : fieldSize lw ≡ false → refused 5 (lw ∷ []) ≡ parsed file o ow lw
+        unfolding tests
+        stop-length-size x = rw (begins, le-leb _ _ h1, le-leb _ _ h2, x)
+
+        module _ (sized : fieldSize lw ≡ true) where
+          pub stop-total : Stop (16 + ow + 2 + lw)
+          unfolding tests
+          stop-total v r e h = rw (begins, le-leb _ _ h1, le-leb _ _ h2, sized, missing (16 + ow + 2 + lw) v r e h)
+
+          module _ (h3 : o + (16 + ow + 2 + lw) ≤ length file) where
+            pub stop-sum : Stop (16 + ow + 2 + lw + 4)
+            unfolding tests
+            stop-sum v r e h = rw (begins, le-leb _ _ h1, le-leb _ _ h2, sized, le-leb _ _ h3, missing (16 + ow + 2 + lw + 4) v r e h)
+
+            module _ (h4 : o + (16 + ow + 2 + lw + 4) ≤ length file) (v : Verdict)
+                (told : verdictOf v ≡ checksumTest file o (o + (16 + ow + 2 + lw)) (accepted [])) where
+              pub stop-checksum : (r : Refusal) → v ≡ Refused r → refusalOf r ≡ parsed file o ow lw
+              unfolding tests
+              stop-checksum r s =
+                  rw (begins, le-leb _ _ h1, le-leb _ _ h2, sized, le-leb _ _ h3, le-leb _ _ h4, sum-wrong file o _ v told r s)
+
+              pub passed : (h : Header) → v ≡ Accepted → h ≡ headerAt file o ow lw → accepted (headerFigures h) ≡ parsed file o ow lw
+              unfolding tests
+              passed h s e =
+                  rw (begins, le-leb _ _ h1, le-leb _ _ h2, sized, le-leb _ _ h3, le-leb _ _ h4, sum-right file o _ v told s, e)
+
+-- Of `len` bytes: where the whole header is there, so are its fields; where its first 16 bytes are, so is each of these.
+pub fields-there : (len o ow lw : ℕ) → o + (16 + ow + 2 + lw + 4) ≤ len → o + 18 + ow + lw ≤ len
+fields-there len o ow lw h = omega arith
+
+module _ (len o k : ℕ) (h : o + 16 ≤ len) (l : k < 16) where
+  pub byte-there : o + k < len
+  byte-there = omega arith
+
+  pub byte-fits : len < 2 ^ 64 → Fits w64 (o + k)
+  byte-fits s = omega arith
+
+-- A number in two bytes, and in four.
+module _ (l : List ℕ) (p x : ℕ) (known : (i : ℕ) → getD l i 0 < 256) where
+  pub two-fit : x ≡ num l p (min 2 8) → Fits w16 x
+  two-fit e = omega (arith, e, num-lt l p 2 known)
+
+  pub four-fit : x ≡ num l p (min 4 8) → Fits w32 x
+  four-fit e = omega (arith, e, num-lt l p 4 known)
+
+-- The fields, as they are read.
+pub fields-are : (file : List ℕ) (o ow lw a b c d e f : ℕ) → o + 18 + ow + lw ≤ length file → fieldSize ow ≡ true → fieldSize lw ≡ true → a ≡ num file (o + 6) (min 4 8)
+    → b ≡ num file (o + 10) (min 2 8) → c ≡ num file (o + 12) (min 2 8) → d ≡ num file (o + 16) (min ow 8)
+    → e ≡ num file (o + 16 + ow) (min 2 8) → f ≡ num file (o + 18 + ow) (min lw 8)
+    → _≡_ {A = Header} (record { kind = getD file (o + 5) 0; ns = a; rs = b; depth = c; root = d; rootRecords = e; records = f }) (headerAt file o ow lw)
+unfolding headerAt
+fields-are file o ow lw a b c d e f h s l ha hb hc hd he hf =
+    let m : min ow 8 ≡ ow = omega (arith, field-size-le ow s) in
+    let n : min lw 8 ≡ lw = omega (arith, field-size-le lw l) in
+    rw (num-1 file (o + 5) (omega arith), ha, hb, hc, hd, he, hf, m, n)

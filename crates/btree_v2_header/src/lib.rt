@@ -1,0 +1,104 @@
+// The header reader.
+
+ghost use mathlib.Core.Path.{_≡_};
+ghost use mathlib.Core.Bool.{true};
+ghost use Prim.Native.Nat.{_+_, _≤_};
+ghost use lib.ListN.{length};
+ghost use Rattle.fields.specs.Numbers.{fieldSize};
+ghost use Rattle.format.specs.Reading.{headerAt, parsed};
+ghost use Rattle.btree_v2_header.specs.Answers.{fieldsOf, headerAnswerOf};
+ghost use Rattle.btree_v2_header.specs.Parsing.{Begun};
+use checks::Verdict;
+use refusal::Refusal;
+
+// The header, as it stands in a file.
+pub struct BTreeV2Header {
+    pub tree_type: u8,
+    pub node_size: u32,
+    pub record_size: u16,
+    // 0: the root is a leaf
+    pub depth: u16,
+    pub root_node_address: u64,
+    pub num_records_in_root: u16,
+    // in all nodes
+    pub total_records: u64,
+}
+
+pub enum HeaderAnswer {
+    Parsed(BTreeV2Header),
+    Refused(Refusal),
+}
+
+impl BTreeV2Header {
+    // The header at `offset`, for offsets and lengths of these sizes.
+    pub fn parse(file: &[u8], offset: u64, offset_size: u8, length_size: u8) -> HeaderAnswer
+        ensures { λ r. ⌜ headerAnswerOf r ≡ parsed (now (file .entry)) offset «offset_size» «length_size» ⌝ }
+    {
+        if let Verdict::Refused(r) = checks::ensure_len(file, offset, 4) {
+            return HeaderAnswer::Refused(r);
+        }
+        let at = offset as usize;
+        if !checks::has_signature(file, at, b'H', b'D') {
+            return HeaderAnswer::Refused(Refusal::InvalidBTreeV2Signature);
+        }
+        if let Verdict::Refused(r) = checks::ensure_len(file, offset, 16) {
+            return HeaderAnswer::Refused(r);
+        }
+        let version = file[at + 4];
+        if version != 0 {
+            return HeaderAnswer::Refused(Refusal::InvalidBTreeV2Version(version));
+        }
+        if !fields::is_field_size(offset_size) {
+            return HeaderAnswer::Refused(Refusal::InvalidOffsetSize(offset_size));
+        }
+        parse_sized(file, offset, offset_size, length_size)
+    }
+}
+
+// The same, where the tests up to that of the offset size have passed.
+fn parse_sized(file: &[u8], offset: u64, offset_size: u8, length_size: u8) -> HeaderAnswer
+    requires { ⌜ Begun (now file) offset «offset_size» ⌝ }
+    ensures { λ r. ⌜ headerAnswerOf r ≡ parsed (now (file .entry)) offset «offset_size» «length_size» ⌝ }
+{
+    let root_end = 16 + (offset_size as u64);
+    if let Verdict::Refused(r) = checks::ensure_len(file, offset, root_end) {
+        return HeaderAnswer::Refused(r);
+    }
+    if let Verdict::Refused(r) = checks::ensure_len(file, offset, root_end + 2) {
+        return HeaderAnswer::Refused(r);
+    }
+    if !fields::is_field_size(length_size) {
+        return HeaderAnswer::Refused(Refusal::InvalidLengthSize(length_size));
+    }
+    let fields_end = root_end + 2 + (length_size as u64);
+    if let Verdict::Refused(r) = checks::ensure_len(file, offset, fields_end) {
+        return HeaderAnswer::Refused(r);
+    }
+    if let Verdict::Refused(r) = checks::ensure_len(file, offset, fields_end + 4) {
+        return HeaderAnswer::Refused(r);
+    }
+    let at = offset as usize;
+    let end = at + (fields_end as usize);
+    if let Verdict::Refused(r) = checks::check_checksum(file, at, end) {
+        return HeaderAnswer::Refused(r);
+    }
+    HeaderAnswer::Parsed(fields_at(file, at, offset_size, length_size))
+}
+
+// The fields of the header at `at`.
+fn fields_at(file: &[u8], at: usize, offset_size: u8, length_size: u8) -> BTreeV2Header
+    requires { ⌜ (at + 18 + «offset_size» + «length_size» ≤ length (now file)) × (fieldSize «offset_size» ≡ true) × (fieldSize «length_size» ≡ true) ⌝ }
+    ensures { λ r. ⌜ fieldsOf r ≡ headerAt (now (file .entry)) at «offset_size» «length_size» ⌝ }
+{
+    let root_width = offset_size as usize;
+    let total_width = length_size as usize;
+    BTreeV2Header {
+        tree_type: file[at + 5],
+        node_size: fields::read_le(file, at + 6, 4) as u32,
+        record_size: fields::read_le(file, at + 10, 2) as u16,
+        depth: fields::read_le(file, at + 12, 2) as u16,
+        root_node_address: fields::read_le(file, at + 16, root_width),
+        num_records_in_root: fields::read_le(file, at + 16 + root_width, 2) as u16,
+        total_records: fields::read_le(file, at + 18 + root_width, total_width),
+    }
+}

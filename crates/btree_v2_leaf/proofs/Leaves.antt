@@ -1,0 +1,136 @@
+-- A leaf's tests, one law for each way out; what a leaf that passes them has; and the records that are handed out.
+use mathlib.Core.Path.{_≡_, refl, sym, ap, _∙_}
+use mathlib.Core.Bool.{Bool, true, false, not}
+use mathlib.Core.List.{List, [], _∷_}
+use Prim.Native.Nat.{ℕ, _+_, _-_, _*_, _^_, _≤_, _<_}
+use native.Mathlib.Nat.{mul-le-mul}
+use native.Mathlib.Omega.{arith}
+use lib.ListN.{length}
+use mir.Syntax.{w64}
+use mir.Val.{Fits}
+use borrow.Author.Tests.{le-leb, lt-leb, lt-ltb, le-ltb}
+use Rattle.fields.specs.Numbers.{held, part}
+use Rattle.fields.proofs.Copying.{part-held}
+use Rattle.refusal.specs.declared.Refusal.{Refusal}
+use Rattle.refusal.specs.Answer.{accepted, refused}
+use Rattle.refusal.proofs.Answers.{refused-is}
+use Rattle.format.specs.Bytes.{leafSignature}
+use Rattle.format.specs.Walk.{needs}
+use Rattle.format.specs.Reading.{same, checksumTest, leafTest}
+use Rattle.format.specs.Look.{lookTest, bytesIf, lookBytes, recordOf}
+use Rattle.format.proofs.Looking as look
+use Rattle.checks.specs.declared.Verdict.{Verdict}
+use Rattle.checks.specs.declared.Verdict.the-variants.{Accepted, Refused}
+use Rattle.checks.specs.Verdicts.{verdictOf}
+use Rattle.checks.proofs.Checks.{bytes-there, bytes-missing, test-holds, test-fails}
+
+-- Numbers of 16 bits: their product.
+module _ (n k : ℕ) (h : n < 2 ^ 16) (l : k < 2 ^ 16) where
+  product-small : n * k < 2 ^ 32
+  product-small =
+      let a : n ≤ 2 ^ 16 - 1 = omega arith in let b : k ≤ 2 ^ 16 - 1 = omega arith in omega (arith, mul-le-mul a b)
+
+  pub product-fits : Fits w64 (n * k)
+  product-fits = omega (arith, product-small)
+
+  pub rows-end-fits : Fits w64 (6 + n * k)
+  rows-end-fits = omega (arith, product-small)
+
+-- The first 6 bytes of a node at a are there.
+module _ (file : List ℕ) (a : ℕ) (front : Verdict) (told : verdictOf front ≡ needs (a + 6) (length file) (accepted [])) (begun : front ≡ Accepted) where
+  pub front-there : a + 6 ≤ length file
+  front-there = bytes-there (a + 6) (length file) front told begun
+
+  pub node-in : a ≤ length file
+  node-in = omega (arith, front-there)
+
+  pub front-fits : length file < 2 ^ 64 → Fits w64 (a + 6)
+  front-fits h = omega (arith, front-there)
+
+-- The records of a leaf at a are there.
+module _ (file : List ℕ) (k a n : ℕ) (rows : Verdict) (counted : verdictOf rows ≡ needs (a + 6 + n * k) (length file) (accepted []))
+    (whole : rows ≡ Accepted) where
+  pub rows-there : a + 6 + n * k ≤ length file
+  rows-there = bytes-there (a + 6 + n * k) (length file) rows counted whole
+
+  pub rows-fit : length file < 2 ^ 64 → Fits w64 (a + 6 + n * k)
+  rows-fit h = omega (arith, rows-there)
+
+module _ (file : List ℕ) (k a n : ℕ) where
+  -- A leaf's tests, in their order.
+  module _ (front : Verdict) (told : verdictOf front ≡ needs (a + 6) (length file) (accepted [])) where
+    pub leaf-front : (q : Refusal) → front ≡ Refused q → verdictOf front ≡ leafTest file k a n
+    unfolding leafTest
+    leaf-front q e = rw e (sym (bytes-missing (a + 6) (length file) front told q e _))
+
+    module _ (begun : front ≡ Accepted) (t : Bool) (is : t ≡ same (part file a 4) leafSignature) where
+      pub leaf-signature : not t ≡ true → refused 2 [] ≡ leafTest file k a n
+      unfolding leafTest
+      leaf-signature m = rw (le-leb _ _ (front-there file a front told begun), test-fails t _ is m)
+
+      module _ (signed : not t ≡ false) (rows : Verdict)
+          (counted : verdictOf rows ≡ needs (a + 6 + n * k) (length file) (accepted [])) where
+        pub leaf-rows : (q : Refusal) → rows ≡ Refused q → verdictOf rows ≡ leafTest file k a n
+        unfolding leafTest
+        leaf-rows q e =
+            rw (le-leb _ _ (front-there file a front told begun), test-holds t _ is signed, e)
+            (sym (bytes-missing (a + 6 + n * k) (length file) rows counted q e _))
+
+        module _ (whole : rows ≡ Accepted) where
+          long-enough : a + 6 + n * k ≤ length file
+          long-enough = rows-there file k a n rows counted whole
+
+          pub leaf-unchecked : length file - (a + 6 + n * k) < 4 → accepted [] ≡ leafTest file k a n
+          unfolding leafTest
+          leaf-unchecked h =
+              let short : length file < a + 10 + n * k = omega (arith, long-enough) in
+              rw (le-leb _ _ (front-there file a front told begun), test-holds t _ is signed, le-leb _ _ long-enough, lt-leb _ _ short)
+
+          pub leaf-checked : (sum : Verdict) → 4 ≤ length file - (a + 6 + n * k)
+              → verdictOf sum ≡ checksumTest file a (a + 6 + n * k) (accepted []) → verdictOf sum ≡ leafTest file k a n
+          unfolding leafTest
+          leaf-checked sum h e =
+              let long : a + 10 + n * k ≤ length file = omega (arith, long-enough) in
+              rw (le-leb _ _ (front-there file a front told begun), test-holds t _ is signed, le-leb _ _ long-enough, le-leb _ _ long) e
+
+  -- A leaf that passes has its records.
+  pub leaf-there : (v : Verdict) → verdictOf v ≡ leafTest file k a n → v ≡ Accepted → a + 6 + n * k ≤ length file
+  leaf-there v told e = look.leaf-there file k a n [] (sym told ∙ ap verdictOf e)
+
+  pub leaf-fits : (v : Verdict) → verdictOf v ≡ leafTest file k a n → v ≡ Accepted → length file < 2 ^ 64 → Fits w64 (a + 6)
+  leaf-fits v told e h = omega (arith, leaf-there v told e)
+
+-- `check_view`, `records_of` and `record_of`.
+module _ (file : List ℕ) (k a n : ℕ) where
+  pub look-no-bytes : k ≡ 0 → refused 8 [] ≡ lookTest file k a n
+  unfolding lookTest
+  look-no-bytes e = rw e
+
+  pub look-tested : (v : Verdict) → (k ≡ 0 → ⊥) → verdictOf v ≡ leafTest file k a n → verdictOf v ≡ lookTest file k a n
+  unfolding lookTest
+  look-tested v some e = rw (lt-ltb 0 k (omega arith)) e
+
+  pub records-refused : (v : Verdict) (q : Refusal) → v ≡ Refused q → [] ≡ bytesIf (verdictOf v) file k a n
+  records-refused v q e = rw (e, refused-is q .2)
+
+  pub records-part : (v : Verdict) (at : ℕ) {r : List ℕ} → v ≡ Accepted → length file < 2 ^ 64 → at ≡ held (a + 6)
+      → r ≡ part file at (n * k) → r ≡ bytesIf (verdictOf v) file k a n
+  records-part v at e small h r = rw (e, ← part-held file (a + 6) (n * k) small, ← h) r
+
+module _ (l : List ℕ) (k n i : ℕ) where
+  pub record-none : n ≤ i → [] ≡ recordOf l k n i
+  unfolding recordOf
+  record-none h = rw (le-ltb i n h)
+
+  pub record-fits : n < 2 ^ 16 → k < 2 ^ 16 → i < n → Fits w64 (i * k)
+  record-fits h m b = product-fits i k (omega arith) m
+
+  pub record-part : {r : List ℕ} → i < n → r ≡ part l (i * k) k → r ≡ recordOf l k n i
+  unfolding recordOf
+  record-part h e = rw (lt-ltb i n h) e
+
+-- `look`: the bytes of a view, by the verdict.
+pub look-bytes : (file : List ℕ) (k a n : ℕ) (v : Verdict) (x : List ℕ) → verdictOf v ≡ lookTest file k a n
+    → x ≡ bytesIf (verdictOf v) file k a n → x ≡ lookBytes file k a n
+unfolding lookBytes
+look-bytes file k a n v x t e = rw (← t) e

@@ -1,0 +1,3 @@
+-- The laws that the crate's proofs cite: Leaves serves the collector too.
+pub mod Leaves
+mod Views

@@ -1,0 +1,2 @@
+-- The laws of the shared tests: the crates above cite them too.
+pub mod Checks
