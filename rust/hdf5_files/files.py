@@ -1,0 +1,314 @@
+"""Real HDF5 files: made with the HDF5 library, and everything in them looked up by it.
+
+    files.py make REAL              makes the files, and a list beside each of what the library says
+    files.py look REAL OURS         the library must say the same of each file NAME.VARIANT.h5 in OURS
+    files.py refuse REAL DAMAGED    the library must say something else of each file, or fail
+"""
+
+import ctypes
+import struct
+import subprocess
+import sys
+from pathlib import Path
+
+import h5py
+import numpy as np
+from h5py import h5, h5a, h5d, h5f, h5g, h5l, h5p, h5s, h5t
+
+# Kind, entries, size of offsets, size of lengths, whether every third entry is removed again.
+FILES = [
+    ("links", 10, 4, 4, False),
+    ("links", 10, 8, 8, False),
+    ("links", 1_000, 4, 4, True),
+    ("links", 10_000, 4, 8, False),
+    ("links", 100_000, 4, 4, False),
+    ("links", 100_000, 8, 8, False),
+    ("attributes", 10, 4, 4, False),
+    ("attributes", 10, 8, 8, False),
+    ("attributes", 300, 4, 4, True),
+    ("attributes", 10_000, 8, 4, False),
+    ("attributes", 65_000, 4, 4, False),
+    ("attributes", 65_000, 8, 8, False),
+    ("chunks", 10, 4, 4, False),
+    ("chunks", 10, 8, 8, False),
+    ("chunks", 1_000, 4, 8, True),
+    ("chunks", 10_000, 8, 4, False),
+    ("chunks", 100_000, 4, 4, False),
+    ("chunks", 100_000, 8, 8, False),
+]
+
+# Two names of one hash, the one that comes later by name first.
+EQUAL_HASHES = [78_299, 5_919]
+
+# h5repack and h5diff take a time that grows with the square of the number of attributes.
+MOST_ATTRIBUTES = 300
+
+# Chunks whose address the library is asked for: each time it goes through all of them.
+MOST_ADDRESSES = 1_000
+
+ORDERED = h5p.CRT_ORDER_TRACKED | h5p.CRT_ORDER_INDEXED
+
+# The library that h5py has loaded, for calls that h5py does not offer.
+with open("/proc/self/maps") as maps:
+    LIBRARY = ctypes.CDLL(min(line.split()[-1] for line in maps if "/libhdf5" in line))
+
+
+class Links:
+    """A group of links: one in ten hard, the others soft."""
+
+    def make(self, file, entries):
+        properties = h5p.create(h5p.GROUP_CREATE)
+        properties.set_link_creation_order(ORDERED)
+        LIBRARY.H5Pset_link_phase_change(ctypes.c_int64(properties.id), 0, 0)
+        group = h5g.create(file, b"site", gcpl=properties)
+        h5g.create(file, b"row")
+        for i in numbers(entries):
+            if i % 10 == 0:
+                group.links.create_hard(name(i), file, b"row")
+            else:
+                group.links.create_soft(name(i), target(i))
+
+    def thin(self, file, entries):
+        group = h5g.open(file, b"site")
+        for i in numbers(entries)[2::3]:
+            group.unlink(name(i))
+
+    def said(self, file):
+        group = h5g.open(file, b"site")
+        found = []
+        by_order = lambda name, info: found.append((info.corder, name))
+        group.links.iterate(by_order, idx_type=h5.INDEX_CRT_ORDER, order=h5.ITER_NATIVE, info=True)
+        for place, (order, link) in enumerate(found):
+            due(link_at(group, h5.INDEX_CRT_ORDER, place), link, f"link {place} by order")
+            info = group.links.get_info(link)
+            due(info.corder, order, link)
+            if number(link) % 10:
+                due(group.links.get_val(link), target(number(link)), link)
+            else:
+                due(info.type, h5l.TYPE_HARD, link)
+        by_name = [link_at(group, h5.INDEX_NAME, place) for place in range(len(found))]
+        due(sorted(by_name), sorted(link for _, link in found), "links by name")
+        due(group.get_num_objs(), len(found), "number of links")
+        due(group.links.exists(b"bay of another site"), False, "a link that is not there")
+        return [f"{order}\t{link.decode()}" for order, link in found]
+
+
+class Attributes:
+    """A group with attributes, the value of each its number."""
+
+    def make(self, file, entries):
+        properties = h5p.create(h5p.GROUP_CREATE)
+        properties.set_attr_creation_order(ORDERED)
+        properties.set_attr_phase_change(0, 0)
+        group = h5g.create(file, b"site", gcpl=properties)
+        scalar = h5s.create(h5s.SCALAR)
+        for i in numbers(entries):
+            h5a.create(group, name(i), h5t.STD_I32LE, scalar).write(np.array(i, dtype="<i4"))
+
+    def thin(self, file, entries):
+        group = h5g.open(file, b"site")
+        for i in numbers(entries)[2::3]:
+            h5a.delete(group, name(i))
+
+    def said(self, file):
+        group = h5g.open(file, b"site")
+        found = []
+        by_order = lambda name, info: found.append((info.corder, name))
+        native = {"order": h5.ITER_NATIVE}
+        h5a.iterate(group, by_order, index_type=h5.INDEX_CRT_ORDER, info=True, **native)
+        value = np.empty((), dtype="<i4")
+        for order, attribute in found:
+            due(h5a.get_info(group, attribute).corder, order, attribute)
+            h5a.open(group, attribute).read(value)
+            due(int(value), number(attribute), attribute)
+        by_name = []
+        h5a.iterate(group, by_name.append, index_type=h5.INDEX_NAME, **native)
+        due(sorted(by_name), sorted(attribute for _, attribute in found), "attributes by name")
+        due(h5a.get_num_attrs(group), len(found), "number of attributes")
+        due(h5a.exists(group, b"bay of another site"), False, "an attribute that is not there")
+        return [f"{order}\t{attribute.decode()}" for order, attribute in found]
+
+
+class Chunks:
+    """A dataset without filters and one with a filter, each chunk two equal numbers."""
+
+    WIDTH = 10
+    CHUNK = (1, 2)
+
+    def make(self, file, entries):
+        shape = (entries // self.WIDTH, self.WIDTH * 2)
+        space = h5s.create_simple(shape, (h5s.UNLIMITED, h5s.UNLIMITED))
+        for dataset in (b"plain", b"filtered"):
+            properties = h5p.create(h5p.DATASET_CREATE)
+            properties.set_chunk(self.CHUNK)
+            if dataset == b"filtered":
+                properties.set_fletcher32()
+            h5d.create(file, dataset, h5t.STD_I32LE, space, dcpl=properties)
+        plain, filtered = (h5d.open(file, dataset) for dataset in (b"plain", b"filtered"))
+        # 7 and the number of entries have no common factor: every chunk, not in order.
+        for i in (i * 7 % entries for i in range(entries)):
+            plain.write_direct_chunk(self.place(i), struct.pack("<ii", i, i), 0)
+        h5py.Dataset(filtered)[...] = np.arange(entries, dtype="<i4").repeat(2).reshape(shape)
+        # Some chunks go past the filter, and have another size then.
+        for i in range(0, entries, 7):
+            filtered.write_direct_chunk(self.place(i), struct.pack("<ii", i, i), 1)
+
+    def place(self, i):
+        return (i // self.WIDTH, i % self.WIDTH * 2)
+
+    def thin(self, file, entries):
+        for dataset in (b"plain", b"filtered"):
+            h5d.open(file, dataset).set_extent((entries // self.WIDTH * 2 // 3, self.WIDTH * 2))
+
+    def said(self, file):
+        lines = []
+        for kind, dataset in ((10, b"plain"), (11, b"filtered")):
+            opened = h5d.open(file, dataset)
+            count = opened.get_num_chunks()
+            due(opened.shape, (count // self.WIDTH, self.WIDTH * 2), "shape")
+            values = h5py.Dataset(opened)[...]
+            due(values.flatten().tolist(), np.arange(count).repeat(2).tolist(), "values")
+            lines += [self.chunk(kind, opened, i, count) for i in range(count)]
+        return lines
+
+    def chunk(self, kind, dataset, i, count):
+        place = self.place(i)
+        mask, data = dataset.read_direct_chunk(place)
+        due(data[:8], struct.pack("<ii", i, i), f"chunk {i}")
+        address = "-"
+        if count <= MOST_ADDRESSES:
+            info = dataset.get_chunk_info_by_coord(place)
+            due((info.filter_mask, info.size), (mask, len(data)), f"chunk {i}")
+            address = info.byte_offset
+        scaled = [str(p // c) for p, c in zip(place, self.CHUNK)]
+        return "\t".join([f"{kind}\t{i}\t{mask}\t{len(data)}\t{address}", *scaled])
+
+
+KINDS = {"links": Links(), "attributes": Attributes(), "chunks": Chunks()}
+
+
+def numbers(entries):
+    """The numbers of the bays, in the order in which they are made."""
+    others = (i for i in range(entries) if i not in EQUAL_HASHES)
+    return (EQUAL_HASHES + list(others))[:entries]
+
+
+def name(i):
+    """The name of bay i: one in three is long."""
+    return b"bay %d" % i + (b" of the long row beside the river" if i % 3 == 1 else b"")
+
+
+def number(name):
+    """The number of the bay of this name."""
+    return int(name.split()[1])
+
+
+def target(i):
+    return b"/row/%d" % i
+
+
+def link_at(group, index, place):
+    """The name of the link at a place of an index, as its tree has them: found by subtree totals."""
+    text = ctypes.create_string_buffer(80)
+    numbers = ctypes.c_uint64(place), text, ctypes.c_size_t(len(text)), ctypes.c_int64(0)
+    group_id = ctypes.c_int64(group.id)
+    if LIBRARY.H5Lget_name_by_idx(group_id, b".", index, h5.ITER_NATIVE, *numbers) <= 0:
+        raise ValueError(f"no link at place {place}")
+    return text.value
+
+
+def due(found, wanted, what):
+    if found != wanted:
+        raise ValueError(f"{what}: {str(found)[:80]}, due {str(wanted)[:80]}")
+
+
+def make(folder):
+    """Makes every file and its list."""
+    for kind, entries, offsets, lengths, thinned in FILES:
+        path = folder / f"{kind}-{entries}-{offsets}-{lengths}{'-thinned' if thinned else ''}.h5"
+        creation = h5p.create(h5p.FILE_CREATE)
+        creation.set_sizes(offsets, lengths)
+        access = h5p.create(h5p.FILE_ACCESS)
+        access.set_libver_bounds(h5f.LIBVER_LATEST, h5f.LIBVER_LATEST)
+        file = h5f.create(bytes(path), h5f.ACC_EXCL, creation, access)
+        KINDS[kind].make(file, entries)
+        if thinned:
+            KINDS[kind].thin(file, entries)
+        file.close()
+        lines = [f"{kind}\t{offsets}\t{lengths}", *said(path)]
+        path.with_suffix(".txt").write_text("\n".join(lines) + "\n")
+
+
+def said(path):
+    """What the library says of a file, each entry looked up."""
+    with h5py.File(path, "r") as file:
+        return KINDS[path.name.split("-")[0]].said(file.id)
+
+
+def run(*command):
+    """Runs a program of the library, which must succeed, and returns what it printed."""
+    done = subprocess.run([str(part) for part in command], capture_output=True, timeout=100)
+    if done.returncode or done.stderr:
+        raise ValueError(f"{command[0]}: exit {done.returncode}, {done.stderr[:200]}")
+    return done.stdout
+
+
+def dumped(path):
+    """What h5dump prints, without the first line, which has the name of the file."""
+    return run("h5dump", path).split(b"\n", 1)[1]
+
+
+def compare(real, path, dump):
+    """Holds a file to the real one: what the library says, prints and copies."""
+    lines = real.with_suffix(".txt").read_text().splitlines()[1:]
+    due(said(path), lines, "what the library says")
+    if dumped(path) != dump:
+        raise ValueError("h5dump prints something else")
+    kind, lengths = real.stem.split("-")[0], real.stem.split("-")[3]
+    if kind == "attributes" and len(lines) > MOST_ATTRIBUTES:
+        return
+    run("h5diff", real, path)
+    # Lengths of 4 bytes make unlimited dimensions limited, and copies of real files unreadable.
+    if kind == "chunks" and lengths == "4":
+        return
+    copy = path.with_suffix(".copy")
+    run("h5repack", path, copy)
+    run("h5diff", real, copy)
+    copy.unlink()
+
+
+def each(real_folder, folder):
+    """Every file of the folder with the first fault that shows in it, or none."""
+    dumps = {}
+    for path in sorted(folder.glob("*.h5")):
+        real = real_folder / (path.name.split(".")[0] + ".h5")
+        if real not in dumps:
+            dumps = {real: dumped(real)}
+        try:
+            compare(real, path, dumps[real])
+            yield path, None
+        except (ValueError, RuntimeError, KeyError, OSError, subprocess.TimeoutExpired) as fault:
+            yield path, str(fault)
+
+
+def look(real, folder, wanted):
+    """Prints each file that is not as wanted, good or faulty; returns whether there is none."""
+    wrong = 0
+    for path, fault in each(real, folder):
+        if (fault is None) != wanted:
+            wrong += 1
+            print(f"{path.name}: {fault or 'the damage is not noticed'}")
+    return wrong == 0
+
+
+def main():
+    command, *folders = sys.argv[1:]
+    if command == "make":
+        make(Path(folders[0]))
+        print(f"HDF5 {h5py.version.hdf5_version}, h5py {h5py.version.version}")
+        return 0
+    return 0 if look(*map(Path, folders), command == "look") else 1
+
+
+if __name__ == "__main__":
+    sys.exit(main())

@@ -1,0 +1,114 @@
+//! Holds the trees of a real file to what the HDF5 library says is in it.
+
+use std::collections::HashMap;
+use std::ops::Range;
+
+use crate::bytes::{number, part, same, Fault};
+use crate::list::{Chunk, Entries, Named};
+use crate::superblock::Sizes;
+use crate::tree::Tree;
+
+/// Where the fields of the records by name and by creation order stand. The key is what both have:
+/// the heap id, and for attributes the flags and the creation order too.
+struct Layout {
+    kinds: [u8; 2],
+    record_sizes: [u16; 2],
+    hash: Range<usize>,
+    order: Range<usize>,
+    keys: [Range<usize>; 2],
+}
+
+const LINKS: Layout = Layout {
+    kinds: [5, 6],
+    record_sizes: [11, 15],
+    hash: 0..4,
+    order: 0..8,
+    keys: [4..11, 8..15],
+};
+
+const ATTRIBUTES: Layout = Layout {
+    kinds: [8, 9],
+    record_sizes: [17, 13],
+    hash: 13..17,
+    order: 9..13,
+    keys: [0..13, 0..13],
+};
+
+/// Holds the trees of a file to its list.
+pub fn file(file: &[u8], sizes: Sizes, trees: &[Tree], entries: &Entries) -> Result<(), Fault> {
+    let kinds: Vec<u8> = trees.iter().map(|tree| tree.header.kind).collect();
+    let [first, second] = trees else {
+        return Err(format!("trees of the types {kinds:?}"));
+    };
+    let due = match entries {
+        Entries::Links(_) => LINKS.kinds,
+        Entries::Attributes(_) => ATTRIBUTES.kinds,
+        Entries::Chunks(_) => [10, 11],
+    };
+    let pair = match kinds[0] == due[0] {
+        true => [first, second],
+        false => [second, first],
+    };
+    same("types", pair.map(|tree| tree.header.kind), due)?;
+    match entries {
+        Entries::Links(names) => by_name_and_order(&LINKS, pair, names),
+        Entries::Attributes(names) => by_name_and_order(&ATTRIBUTES, pair, names),
+        Entries::Chunks(all) => pair.iter().try_for_each(|tree| {
+            let own = all.iter().filter(|chunk| chunk.kind == tree.header.kind);
+            chunks(file, sizes, tree, own.collect())
+        }),
+    }
+}
+
+/// By creation order: the listed orders, ascending. By name: the hash of each name, ascending, and
+/// by name where hashes are equal. The key tells which name a record is of.
+fn by_name_and_order(layout: &Layout, pair: [&Tree; 2], names: &[Named]) -> Result<(), Fault> {
+    let record_sizes = pair.map(|tree| tree.header.record_size);
+    same("record sizes", record_sizes, layout.record_sizes)?;
+    let [by_name, by_order] = pair;
+    same("records by name", by_name.rows().count(), names.len())?;
+    same("records by order", by_order.rows().count(), names.len())?;
+    let mut listed: Vec<&Named> = names.iter().collect();
+    listed.sort_by_key(|named| named.order);
+    let mut owners = HashMap::new();
+    for (row, named) in by_order.rows().zip(listed) {
+        same("order", number(&row[layout.order.clone()]), named.order)?;
+        owners.insert(&row[layout.keys[1].clone()], &named.name);
+    }
+    let mut before = None;
+    for row in by_name.rows() {
+        let owner = owners.remove(&row[layout.keys[0].clone()]);
+        let name = owner.ok_or("a record by name that is none by order, or comes twice")?;
+        let hash = nuldrafon::jenkins_lookup3(name.as_bytes());
+        same("hash", number(&row[layout.hash.clone()]), hash.into())?;
+        if before >= Some((hash, name)) {
+            return Err(format!("{name} after {before:?}"));
+        }
+        before = Some((hash, name));
+    }
+    Ok(())
+}
+
+/// The listed chunks, by scaled offsets; at each address stand the chunk's two numbers.
+fn chunks(file: &[u8], sizes: Sizes, tree: &Tree, mut due: Vec<&Chunk>) -> Result<(), Fault> {
+    same("chunks", tree.rows().count(), due.len())?;
+    due.sort_by(|a, b| a.scaled.cmp(&b.scaled));
+    for (row, chunk) in tree.rows().zip(due) {
+        let (address, rest) = row.split_at(sizes.offset.into());
+        let (stored, scaled) = rest.split_at(rest.len() - 8 * chunk.scaled.len());
+        let found: Vec<u64> = scaled.chunks_exact(8).map(number).collect();
+        same("scaled offsets", &found, &chunk.scaled)?;
+        let address = number(address);
+        same("address", address, chunk.address.unwrap_or(address))?;
+        let value = chunk.value.to_le_bytes();
+        same("chunk", part(file, address, 8)?, &[value, value].concat())?;
+        if tree.header.kind == 11 {
+            let (size, mask) = stored.split_at(stored.len() - 4);
+            let found = (number(size), number(mask));
+            same("size and mask", found, (chunk.size, chunk.mask))?;
+        } else {
+            same("bytes between", stored.len(), 0)?;
+        }
+    }
+    Ok(())
+}

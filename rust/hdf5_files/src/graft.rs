@@ -1,0 +1,192 @@
+//! Our header and nodes in the place of the library's, whole or damaged.
+
+use nuldrafon::btree_v2;
+
+use crate::bytes::{same, Fault};
+use crate::superblock::{set_end, Sizes};
+use crate::tree::{Header, Tree};
+
+/// What the library's own nodes are overwritten with.
+const WIPED: u8 = 0x5a;
+
+/// Node sizes that are tried, from small to the largest; 0 stands for the least that can be planned.
+const NODE_SIZES: [u32; 6] = [0, 100, 300, 512, 2_048, 65_536];
+
+/// Those for trees of more records than `MANY`.
+const FOR_MANY: [u32; 3] = [0, 512, 65_536];
+const MANY: u64 = 1_000;
+
+/// The node sizes for a tree of so many records.
+pub fn node_sizes(records: u64) -> &'static [u32] {
+    if records > MANY {
+        &FOR_MANY
+    } else {
+        &NODE_SIZES
+    }
+}
+
+/// A tree as the writing call made it.
+pub struct Written {
+    pub node_size: u32,
+    pub depth: u64,
+    pub nodes: u64,
+    header: Vec<u8>,
+    image: Vec<u8>,
+}
+
+/// A fault in one of a file's trees.
+#[derive(Clone, Copy, Debug)]
+pub enum Damage {
+    /// A byte of the middle record is another.
+    Changed,
+    /// The middle record is missing.
+    Dropped,
+    /// The middle record stands where the next one should, and the next one before it.
+    Swapped,
+    /// A byte of a written node is another, and its checksum is not.
+    Unsummed,
+}
+
+pub const DAMAGES: [Damage; 4] = [
+    Damage::Changed,
+    Damage::Dropped,
+    Damage::Swapped,
+    Damage::Unsummed,
+];
+
+/// The file with our trees, in nodes of this size, at its end, and the library's nodes wiped.
+pub fn graft(
+    file: &[u8],
+    sizes: Sizes,
+    trees: &[Tree],
+    node_size: u32,
+) -> Result<(Vec<u8>, Vec<Written>), Fault> {
+    let mut grafted = file.to_vec();
+    let mut all = Vec::new();
+    for tree in trees {
+        let node_size = match node_size {
+            0 => least(tree, sizes),
+            _ => node_size,
+        };
+        let written = write(tree, &tree.records, node_size, sizes, grafted.len() as u64)?;
+        put(&mut grafted, tree, &written);
+        all.push(written);
+    }
+    set_end(&mut grafted, sizes);
+    Ok((grafted, all))
+}
+
+/// The file with one of its trees ours, and damaged.
+pub fn damaged(
+    file: &[u8],
+    sizes: Sizes,
+    tree: &Tree,
+    damage: Damage,
+    node_size: u32,
+) -> Result<Vec<u8>, Fault> {
+    let mut grafted = file.to_vec();
+    let size = usize::from(tree.header.record_size);
+    let middle = tree.rows().count() / 2 * size;
+    let mut records = tree.records.clone();
+    match damage {
+        Damage::Changed => records[middle + told_by(tree.header.kind)] ^= 1,
+        Damage::Dropped => drop(records.drain(middle..middle + size)),
+        Damage::Swapped => records[middle - size..middle + size].rotate_left(size),
+        Damage::Unsummed => {}
+    }
+    let mut written = write(tree, &records, node_size, sizes, grafted.len() as u64)?;
+    if let Damage::Unsummed = damage {
+        written.image[6] ^= 1;
+    }
+    put(&mut grafted, tree, &written);
+    set_end(&mut grafted, sizes);
+    Ok(grafted)
+}
+
+/// A byte of a record whose change the library must notice: of a hash, a heap id or an address.
+fn told_by(kind: u8) -> usize {
+    match kind {
+        5 | 10 | 11 => 0,
+        6 => 9,
+        8 => 13,
+        _ => 1,
+    }
+}
+
+/// Whether our header and leaf are the library's, byte for byte; none where there are more nodes.
+pub fn equal_leaf(file: &[u8], sizes: Sizes, tree: &Tree) -> Result<Option<bool>, Fault> {
+    let Header {
+        at,
+        node_size,
+        root,
+        depth,
+        ..
+    } = tree.header;
+    if depth > 0 {
+        return Ok(None);
+    }
+    let ours = write(tree, &tree.records, node_size, sizes, root)?;
+    Ok(Some(
+        file[at..].starts_with(&ours.header) && file[root as usize..].starts_with(&ours.image),
+    ))
+}
+
+/// The least node size at which the tree's records can be planned.
+fn least(tree: &Tree, sizes: Sizes) -> u32 {
+    let Header {
+        records,
+        record_size,
+        ..
+    } = tree.header;
+    let accepts = |size: &u32| btree_v2::plan(records, record_size, *size, sizes.offset)[0] == 0;
+    (10..=65_536).find(accepts).unwrap_or(65_536)
+}
+
+/// Writes records into a tree of the same type, its nodes from `start` on.
+fn write(
+    tree: &Tree,
+    records: &[u8],
+    node_size: u32,
+    sizes: Sizes,
+    start: u64,
+) -> Result<Written, Fault> {
+    let Header {
+        kind, record_size, ..
+    } = tree.header;
+    let count = (records.len() / usize::from(record_size)) as u64;
+    let planned = btree_v2::plan(count, record_size, node_size, sizes.offset);
+    let [refusal, depth, nodes, _, size] = planned;
+    same("refusal of the plan", refusal, 0)?;
+    let mut header = vec![0; 22 + usize::from(sizes.offset + sizes.length)];
+    let mut image = vec![0; size as usize];
+    let written = btree_v2::write(
+        kind,
+        count,
+        record_size,
+        node_size,
+        sizes.offset,
+        sizes.length,
+        start,
+        records,
+        &mut header,
+        &mut image,
+    );
+    same("answer of the write", written, planned)?;
+    Ok(Written {
+        node_size,
+        depth,
+        nodes,
+        header,
+        image,
+    })
+}
+
+/// Wipes the library's nodes, writes our header over the library's, and our nodes at the end.
+fn put(file: &mut Vec<u8>, tree: &Tree, written: &Written) {
+    for at in &tree.nodes {
+        file[*at..*at + tree.header.node_size as usize].fill(WIPED);
+    }
+    let at = tree.header.at;
+    file[at..at + written.header.len()].copy_from_slice(&written.header);
+    file.extend_from_slice(&written.image);
+}

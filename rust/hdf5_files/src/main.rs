@@ -1,0 +1,178 @@
+//! Reads trees that the HDF5 library wrote, and has the library read ours in their place.
+
+mod bytes;
+mod check;
+mod graft;
+mod library;
+mod list;
+mod superblock;
+mod tree;
+
+use std::fs;
+use std::path::{Path, PathBuf};
+use std::process::ExitCode;
+
+use bytes::{same, Fault};
+use graft::{Written, DAMAGES};
+use library::{files_py, Folder};
+use list::{Entries, List};
+use tree::Tree;
+
+/// Files up to this length are also damaged, in every way and at nodes of this size.
+const SMALL: usize = 100_000;
+const DAMAGED_NODE_SIZE: u32 = 300;
+
+/// A real file, read.
+struct Real {
+    name: String,
+    bytes: Vec<u8>,
+    list: List,
+    trees: Vec<Tree>,
+}
+
+fn main() -> ExitCode {
+    match run() {
+        Ok(()) => ExitCode::SUCCESS,
+        Err(fault) => {
+            eprintln!("real HDF5 files: {fault}");
+            ExitCode::FAILURE
+        }
+    }
+}
+
+fn run() -> Result<(), Fault> {
+    let folder = Folder::new()?;
+    let made = folder.inner("real")?;
+    files_py("make", &[&made])?;
+    println!("type  records  sizes  library: node size, depth, nodes   ours: node size/depth/nodes");
+    let (mut grafts, mut damages) = (0, 0);
+    for path in listed(made.path())? {
+        let mut real = Real::read(&path).map_err(|f| format!("{}: {f}", path.display()))?;
+        let ours = folder.inner("ours")?;
+        let written = real.graft_all(&ours)?;
+        files_py("look", &[&made, &ours])?;
+        grafts += written.len();
+        real.print(&written)?;
+        if real.bytes.len() < SMALL {
+            damages += real.notices(&folder, &made)?;
+        }
+    }
+    println!("{grafts} files with our trees read by the library; {damages} damages noticed");
+    Ok(())
+}
+
+/// The files of the folder that have a list, in order.
+fn listed(folder: &Path) -> Result<Vec<PathBuf>, Fault> {
+    let entries = fs::read_dir(folder).map_err(|e| e.to_string())?;
+    let paths = entries.filter_map(|entry| Some(entry.ok()?.path()));
+    let mut paths: Vec<PathBuf> = paths
+        .filter(|path| path.extension().is_some_and(|e| e == "h5"))
+        .collect();
+    paths.sort();
+    Ok(paths)
+}
+
+impl Real {
+    /// Reads a file and holds it to its list.
+    fn read(path: &Path) -> Result<Self, Fault> {
+        let bytes = fs::read(path).map_err(|e| e.to_string())?;
+        let text = fs::read_to_string(path.with_extension("txt")).map_err(|e| e.to_string())?;
+        let list = List::read(&text)?;
+        let sizes = superblock::read(&bytes)?;
+        same("sizes", sizes, list.sizes)?;
+        let trees = tree::trees(&bytes, sizes)?;
+        let stem = path.file_stem().unwrap_or_default();
+        let real = Self {
+            name: stem.to_string_lossy().into_owned(),
+            bytes,
+            list,
+            trees,
+        };
+        real.check()?;
+        Ok(real)
+    }
+
+    fn check(&self) -> Result<(), Fault> {
+        check::file(&self.bytes, self.list.sizes, &self.trees, &self.list.entries)
+    }
+
+    /// A copy of the file for each node size, with our trees of that size.
+    fn graft_all(&self, folder: &Folder) -> Result<Vec<Vec<Written>>, Fault> {
+        let mut all = Vec::new();
+        for node_size in graft::node_sizes(self.trees[0].header.records) {
+            let made = graft::graft(&self.bytes, self.list.sizes, &self.trees, *node_size);
+            let (grafted, written) = made?;
+            self.save(folder, &node_size.to_string(), &grafted)?;
+            all.push(written);
+        }
+        Ok(all)
+    }
+
+    fn save(&self, folder: &Folder, variant: &str, bytes: &[u8]) -> Result<(), Fault> {
+        let path = folder.path().join(format!("{}.{variant}.h5", self.name));
+        fs::write(&path, bytes).map_err(|e| format!("{}: {e}", path.display()))
+    }
+
+    /// A line for each tree.
+    fn print(&self, written: &[Vec<Written>]) -> Result<(), Fault> {
+        let sizes = self.list.sizes;
+        for (i, tree) in self.trees.iter().enumerate() {
+            let head = tree.header;
+            let equal = match graft::equal_leaf(&self.bytes, sizes, tree)? {
+                Some(true) => "equal",
+                Some(false) => return Err("our leaf differs from the library's".to_string()),
+                None => "",
+            };
+            let ours: Vec<String> = written
+                .iter()
+                .map(|trees| &trees[i])
+                .map(|w| format!("{}/{}/{}", w.node_size, w.depth, w.nodes))
+                .collect();
+            println!(
+                "{:4} {:8} {:>6} {:5} {:2} {:6} {equal:5}  {}",
+                head.kind,
+                head.records,
+                format!("{}/{}", sizes.offset, sizes.length),
+                head.node_size,
+                head.depth,
+                tree.nodes.len(),
+                ours.join(" ")
+            );
+        }
+        Ok(())
+    }
+
+    /// Damages what is read and what is written; each damage must be noticed. Returns how many.
+    fn notices(&mut self, folder: &Folder, made: &Folder) -> Result<usize, Fault> {
+        let damaged = folder.inner("damaged")?;
+        let mut count = 0;
+        for tree in &self.trees {
+            for damage in DAMAGES {
+                let (sizes, size) = (self.list.sizes, DAMAGED_NODE_SIZE);
+                let bytes = graft::damaged(&self.bytes, sizes, tree, damage, size)?;
+                let variant = format!("{}-{damage:?}", tree.header.kind);
+                self.save(&damaged, &variant, &bytes)?;
+                count += 1;
+            }
+        }
+        files_py("refuse", &[made, &damaged])?;
+        Ok(count + self.notices_reading()?)
+    }
+
+    /// A record with another byte, and a list without its last entry.
+    fn notices_reading(&mut self) -> Result<usize, Fault> {
+        for i in 0..self.trees.len() {
+            let middle = self.trees[i].records.len() / 2;
+            self.trees[i].records[middle] ^= 1;
+            same("a changed record is noticed", self.check().is_err(), true)?;
+            self.trees[i].records[middle] ^= 1;
+        }
+        self.check()?;
+        match &mut self.list.entries {
+            Entries::Links(all) | Entries::Attributes(all) => drop(all.pop()),
+            Entries::Chunks(all) => drop(all.pop()),
+        }
+        same("a short list is noticed", self.check().is_err(), true)?;
+        Ok(self.trees.len() + 1)
+    }
+}
