@@ -1,11 +1,12 @@
-# Commands: make test (proofs, must-fail edits, comparisons), make run, make bench.
+# Commands: make test (proofs, must-fail edits, comparisons), make files (real HDF5 files, which make
+# test runs too), make run, make bench.
 # HDF5_PURE names the folder of hdf5-pure to compare with, a relative name from here; unset, that
 # comparison is left out.
 
 SHELL := bash
 .SHELLFLAGS := -eu -o pipefail -c
 .ONESHELL:
-.PHONY: test run bench
+.PHONY: test files run bench
 
 # The crates whose C functions are linked from Rust.
 EXPORTED := checksum capi
@@ -26,7 +27,25 @@ test:
 	fi
 	for crate in $(EXPORTED); do rt staticlib "$$crate"; done
 	($(CARGO) test --release --offline)
+	$(MAKE) --no-print-directory files
 	echo "$$verdict"
+
+# The programs and the Python module of the HDF5 library, and the Debian packages that hold them.
+HDF5_THERE := h5dump --version && h5diff --version && h5repack --version && \
+    /usr/bin/python3 -c 'import h5py'
+HDF5_PACKAGES := hdf5-tools python3-h5py
+
+# Installs the packages where they are missing and that can be done; without them nothing is run.
+files: $(ARCHIVES)
+	@there() { { $(HDF5_THERE); } >/dev/null 2>&1; }
+	install() { timeout 120 apt-get "$$@" </dev/null >/dev/null 2>&1; }
+	export DEBIAN_FRONTEND=noninteractive
+	there || { install update && install install -y $(HDF5_PACKAGES); } || true
+	if ! there; then
+	    echo "real HDF5 files: not run, since $(HDF5_PACKAGES) are not there and cannot be installed"
+	    exit 0
+	fi
+	$(CARGO) run --quiet --release --offline --package hdf5_files
 
 run: $(ARCHIVES)
 	@$(CARGO) run --quiet --release --offline --package cli

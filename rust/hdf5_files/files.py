@@ -6,6 +6,7 @@
 """
 
 import ctypes
+import os
 import struct
 import subprocess
 import sys
@@ -21,30 +22,37 @@ FILES = [
     ("links", 10, 8, 8, False),
     ("links", 1_000, 4, 4, True),
     ("links", 10_000, 4, 8, False),
-    ("links", 100_000, 4, 4, False),
     ("links", 100_000, 8, 8, False),
     ("attributes", 10, 4, 4, False),
     ("attributes", 10, 8, 8, False),
     ("attributes", 300, 4, 4, True),
     ("attributes", 10_000, 8, 4, False),
     ("attributes", 65_000, 4, 4, False),
-    ("attributes", 65_000, 8, 8, False),
     ("chunks", 10, 4, 4, False),
     ("chunks", 10, 8, 8, False),
     ("chunks", 1_000, 4, 8, True),
     ("chunks", 10_000, 8, 4, False),
-    ("chunks", 100_000, 4, 4, False),
     ("chunks", 100_000, 8, 8, False),
+]
+LONG_FILES = [
+    ("links", 100_000, 4, 4, False),
+    ("attributes", 65_000, 8, 8, False),
+    ("chunks", 100_000, 4, 4, False),
 ]
 
 # Two names of one hash, the one that comes later by name first.
 EQUAL_HASHES = [78_299, 5_919]
 
-# h5repack and h5diff take a time that grows with the square of the number of attributes.
-MOST_ATTRIBUTES = 300
+# Entries up to which h5diff and h5repack are run. With attributes their time grows with the square.
+LONG = os.environ.get("HDF5_FILES") == "all"
+MOST_COPIED = {"links": 10_000, "attributes": 300, "chunks": 10_000}
+MOST_COPIED_LONG = {"links": 100_000, "attributes": 1_000, "chunks": 100_000}
 
 # Chunks whose address the library is asked for: each time it goes through all of them.
 MOST_ADDRESSES = 1_000
+
+# Links that are found by their places too.
+MOST_PLACES = 10_000
 
 ORDERED = h5p.CRT_ORDER_TRACKED | h5p.CRT_ORDER_INDEXED
 
@@ -78,16 +86,19 @@ class Links:
         found = []
         by_order = lambda name, info: found.append((info.corder, name))
         group.links.iterate(by_order, idx_type=h5.INDEX_CRT_ORDER, order=h5.ITER_NATIVE, info=True)
-        for place, (order, link) in enumerate(found):
-            due(link_at(group, h5.INDEX_CRT_ORDER, place), link, f"link {place} by order")
+        for order, link in found:
             info = group.links.get_info(link)
             due(info.corder, order, link)
             if number(link) % 10:
                 due(group.links.get_val(link), target(number(link)), link)
             else:
                 due(info.type, h5l.TYPE_HARD, link)
-        by_name = [link_at(group, h5.INDEX_NAME, place) for place in range(len(found))]
+        by_name = []
+        group.links.iterate(by_name.append, idx_type=h5.INDEX_NAME, order=h5.ITER_NATIVE)
         due(sorted(by_name), sorted(link for _, link in found), "links by name")
+        for place in range(0, len(found), 1 + len(found) // MOST_PLACES):
+            due(link_at(group, h5.INDEX_CRT_ORDER, place), found[place][1], "a link by its place")
+            due(link_at(group, h5.INDEX_NAME, place), by_name[place], "a link by its place")
         due(group.get_num_objs(), len(found), "number of links")
         due(group.links.exists(b"bay of another site"), False, "a link that is not there")
         return [f"{order}\t{link.decode()}" for order, link in found]
@@ -224,7 +235,7 @@ def due(found, wanted, what):
 
 def make(folder):
     """Makes every file and its list."""
-    for kind, entries, offsets, lengths, thinned in FILES:
+    for kind, entries, offsets, lengths, thinned in FILES + (LONG_FILES if LONG else []):
         path = folder / f"{kind}-{entries}-{offsets}-{lengths}{'-thinned' if thinned else ''}.h5"
         creation = h5p.create(h5p.FILE_CREATE)
         creation.set_sizes(offsets, lengths)
@@ -264,8 +275,8 @@ def compare(real, path, dump):
     due(said(path), lines, "what the library says")
     if dumped(path) != dump:
         raise ValueError("h5dump prints something else")
-    kind, lengths = real.stem.split("-")[0], real.stem.split("-")[3]
-    if kind == "attributes" and len(lines) > MOST_ATTRIBUTES:
+    kind, entries, _, lengths = real.stem.split("-")[:4]
+    if int(entries) > (MOST_COPIED_LONG if LONG else MOST_COPIED)[kind]:
         return
     run("h5diff", real, path)
     # Lengths of 4 bytes make unlimited dimensions limited, and copies of real files unreadable.
