@@ -3,6 +3,7 @@
     files.py make REAL              makes the files, and a list beside each of what the library says
     files.py look REAL OURS         the library must say the same of each file NAME.VARIANT.h5 in OURS
     files.py refuse REAL DAMAGED    the library must say something else of each file, or fail
+    files.py grow OURS              adds and removes entries in each file, and makes a list of it
 """
 
 import ctypes
@@ -16,28 +17,32 @@ import h5py
 import numpy as np
 from h5py import h5, h5a, h5d, h5f, h5g, h5l, h5p, h5s, h5t
 
-# Kind, entries, size of offsets, size of lengths, whether every third entry is removed again.
+# Kind, entries, size of offsets, size of lengths, what is done when all are made: nothing, "thinned"
+# (every third is removed again) or "emptied". A file that the library cannot read back is "unread".
 FILES = [
-    ("links", 10, 4, 4, False),
-    ("links", 10, 8, 8, False),
-    ("links", 1_000, 4, 4, True),
-    ("links", 10_000, 4, 8, False),
-    ("links", 100_000, 8, 8, False),
-    ("attributes", 10, 4, 4, False),
-    ("attributes", 10, 8, 8, False),
-    ("attributes", 300, 4, 4, True),
-    ("attributes", 10_000, 8, 4, False),
-    ("attributes", 65_000, 4, 4, False),
-    ("chunks", 10, 4, 4, False),
-    ("chunks", 10, 8, 8, False),
-    ("chunks", 1_000, 4, 8, True),
-    ("chunks", 10_000, 8, 4, False),
-    ("chunks", 100_000, 8, 8, False),
+    ("links", 10, 2, 2, "unread"),
+    ("links", 10, 4, 4, ""),
+    ("links", 10, 8, 8, ""),
+    ("links", 1_000, 4, 4, "thinned"),
+    ("links", 10_000, 4, 8, ""),
+    ("links", 100_000, 8, 8, ""),
+    ("attributes", 10, 2, 2, "unread"),
+    ("attributes", 10, 4, 4, ""),
+    ("attributes", 10, 8, 8, ""),
+    ("attributes", 300, 4, 4, "thinned"),
+    ("attributes", 10_000, 8, 4, ""),
+    ("attributes", 65_000, 4, 4, ""),
+    ("chunks", 10, 8, 8, "emptied"),
+    ("chunks", 10, 4, 4, ""),
+    ("chunks", 10, 8, 8, ""),
+    ("chunks", 1_000, 4, 8, "thinned"),
+    ("chunks", 10_000, 8, 4, ""),
+    ("chunks", 100_000, 8, 8, ""),
 ]
 LONG_FILES = [
-    ("links", 100_000, 4, 4, False),
-    ("attributes", 65_000, 8, 8, False),
-    ("chunks", 100_000, 4, 4, False),
+    ("links", 100_000, 4, 4, ""),
+    ("attributes", 65_000, 8, 8, ""),
+    ("chunks", 100_000, 4, 4, ""),
 ]
 
 # Two names of one hash, the one that comes later by name first.
@@ -50,6 +55,9 @@ MOST_COPIED_LONG = {"links": 100_000, "attributes": 1_000, "chunks": 100_000}
 
 # Chunks whose address the library is asked for: each time it goes through all of them.
 MOST_ADDRESSES = 1_000
+
+# Entries that are added to a file with our trees.
+ADDED = 500
 
 # Links that are found by their places too.
 MOST_PLACES = 10_000
@@ -68,24 +76,32 @@ class Links:
         properties = h5p.create(h5p.GROUP_CREATE)
         properties.set_link_creation_order(ORDERED)
         LIBRARY.H5Pset_link_phase_change(ctypes.c_int64(properties.id), 0, 0)
-        group = h5g.create(file, b"site", gcpl=properties)
+        h5g.create(file, b"site", gcpl=properties)
         h5g.create(file, b"row")
-        for i in numbers(entries):
+        self.add(file, numbers(entries))
+
+    def add(self, file, bays):
+        group = h5g.open(file, b"site")
+        for i in bays:
             if i % 10 == 0:
                 group.links.create_hard(name(i), file, b"row")
             else:
                 group.links.create_soft(name(i), target(i))
 
-    def thin(self, file, entries):
+    def thin(self, file):
         group = h5g.open(file, b"site")
-        for i in numbers(entries)[2::3]:
-            group.unlink(name(i))
+        for _, link in self.by_order(group)[2::3]:
+            group.unlink(link)
+
+    def by_order(self, group):
+        found = []
+        add = lambda name, info: found.append((info.corder, name))
+        group.links.iterate(add, idx_type=h5.INDEX_CRT_ORDER, order=h5.ITER_NATIVE, info=True)
+        return found
 
     def said(self, file):
         group = h5g.open(file, b"site")
-        found = []
-        by_order = lambda name, info: found.append((info.corder, name))
-        group.links.iterate(by_order, idx_type=h5.INDEX_CRT_ORDER, order=h5.ITER_NATIVE, info=True)
+        found = self.by_order(group)
         for order, link in found:
             info = group.links.get_info(link)
             due(info.corder, order, link)
@@ -101,7 +117,7 @@ class Links:
             due(link_at(group, h5.INDEX_NAME, place), by_name[place], "a link by its place")
         due(group.get_num_objs(), len(found), "number of links")
         due(group.links.exists(b"bay of another site"), False, "a link that is not there")
-        return [f"{order}\t{link.decode()}" for order, link in found]
+        return listed(found)
 
 
 class Attributes:
@@ -111,33 +127,41 @@ class Attributes:
         properties = h5p.create(h5p.GROUP_CREATE)
         properties.set_attr_creation_order(ORDERED)
         properties.set_attr_phase_change(0, 0)
-        group = h5g.create(file, b"site", gcpl=properties)
+        h5g.create(file, b"site", gcpl=properties)
+        self.add(file, numbers(entries))
+
+    def add(self, file, bays):
+        group = h5g.open(file, b"site")
         scalar = h5s.create(h5s.SCALAR)
-        for i in numbers(entries):
+        for i in bays:
             h5a.create(group, name(i), h5t.STD_I32LE, scalar).write(np.array(i, dtype="<i4"))
 
-    def thin(self, file, entries):
+    def thin(self, file):
         group = h5g.open(file, b"site")
-        for i in numbers(entries)[2::3]:
-            h5a.delete(group, name(i))
+        for _, attribute in self.by_order(group)[2::3]:
+            h5a.delete(group, attribute)
+
+    def by_order(self, group):
+        found = []
+        add = lambda name, info: found.append((info.corder, name))
+        order = {"index_type": h5.INDEX_CRT_ORDER, "order": h5.ITER_NATIVE}
+        h5a.iterate(group, add, info=True, **order)
+        return found
 
     def said(self, file):
         group = h5g.open(file, b"site")
-        found = []
-        by_order = lambda name, info: found.append((info.corder, name))
-        native = {"order": h5.ITER_NATIVE}
-        h5a.iterate(group, by_order, index_type=h5.INDEX_CRT_ORDER, info=True, **native)
+        found = self.by_order(group)
         value = np.empty((), dtype="<i4")
         for order, attribute in found:
             due(h5a.get_info(group, attribute).corder, order, attribute)
             h5a.open(group, attribute).read(value)
             due(int(value), number(attribute), attribute)
         by_name = []
-        h5a.iterate(group, by_name.append, index_type=h5.INDEX_NAME, **native)
+        h5a.iterate(group, by_name.append, index_type=h5.INDEX_NAME, order=h5.ITER_NATIVE)
         due(sorted(by_name), sorted(attribute for _, attribute in found), "attributes by name")
         due(h5a.get_num_attrs(group), len(found), "number of attributes")
         due(h5a.exists(group, b"bay of another site"), False, "an attribute that is not there")
-        return [f"{order}\t{attribute.decode()}" for order, attribute in found]
+        return listed(found)
 
 
 class Chunks:
@@ -167,9 +191,18 @@ class Chunks:
     def place(self, i):
         return (i // self.WIDTH, i % self.WIDTH * 2)
 
-    def thin(self, file, entries):
+    def add(self, file, bays):
+        for dataset, mask in ((b"plain", 0), (b"filtered", 1)):
+            opened = h5d.open(file, dataset)
+            rows = opened.shape[0]
+            opened.set_extent((rows + len(bays) // self.WIDTH, self.WIDTH * 2))
+            for i in range(rows * self.WIDTH, rows * self.WIDTH + len(bays)):
+                opened.write_direct_chunk(self.place(i), struct.pack("<ii", i, i), mask)
+
+    def thin(self, file, kept=2 / 3):
         for dataset in (b"plain", b"filtered"):
-            h5d.open(file, dataset).set_extent((entries // self.WIDTH * 2 // 3, self.WIDTH * 2))
+            opened = h5d.open(file, dataset)
+            opened.set_extent((int(opened.shape[0] * kept), self.WIDTH * 2))
 
     def said(self, file):
         lines = []
@@ -228,6 +261,11 @@ def link_at(group, index, place):
     return text.value
 
 
+def listed(found):
+    """The lines of a list: creation order and name."""
+    return [f"{order}\t{name.decode()}" for order, name in found]
+
+
 def due(found, wanted, what):
     if found != wanted:
         raise ValueError(f"{what}: {str(found)[:80]}, due {str(wanted)[:80]}")
@@ -235,19 +273,41 @@ def due(found, wanted, what):
 
 def make(folder):
     """Makes every file and its list."""
-    for kind, entries, offsets, lengths, thinned in FILES + (LONG_FILES if LONG else []):
-        path = folder / f"{kind}-{entries}-{offsets}-{lengths}{'-thinned' if thinned else ''}.h5"
+    for kind, entries, offsets, lengths, then in FILES + (LONG_FILES if LONG else []):
+        path = folder / "-".join(filter(None, (kind, str(entries), str(offsets), str(lengths), then)))
+        path = path.with_suffix(".h5")
         creation = h5p.create(h5p.FILE_CREATE)
         creation.set_sizes(offsets, lengths)
         access = h5p.create(h5p.FILE_ACCESS)
         access.set_libver_bounds(h5f.LIBVER_LATEST, h5f.LIBVER_LATEST)
         file = h5f.create(bytes(path), h5f.ACC_EXCL, creation, access)
         KINDS[kind].make(file, entries)
-        if thinned:
-            KINDS[kind].thin(file, entries)
+        if then == "thinned":
+            KINDS[kind].thin(file)
+        if then == "emptied":
+            KINDS[kind].thin(file, kept=0)
         file.close()
-        lines = [f"{kind}\t{offsets}\t{lengths}", *said(path)]
-        path.with_suffix(".txt").write_text("\n".join(lines) + "\n")
+        if then == "unread":
+            write_list(path, listed(enumerate(map(name, numbers(entries)))))
+        else:
+            write_list(path, said(path))
+
+
+def write_list(path, lines):
+    """Writes the list of a file: its kind and sizes, and what is in it."""
+    kind, _, offsets, lengths = path.name.split(".")[0].split("-")[:4]
+    first = f"{kind}\t{offsets}\t{lengths}"
+    path.with_suffix(".txt").write_text("\n".join([first, *lines]) + "\n")
+
+
+def grow(folder):
+    """Has the library add entries to each file and remove others, and makes a list of it."""
+    for path in sorted(folder.glob("*.h5")):
+        with h5py.File(path, "r+", libver="latest") as file:
+            kind = KINDS[path.name.split("-")[0]]
+            kind.add(file.id, range(1_000_000, 1_000_000 + ADDED))
+            kind.thin(file.id)
+        write_list(path, said(path))
 
 
 def said(path):
@@ -317,6 +377,9 @@ def main():
     if command == "make":
         make(Path(folders[0]))
         print(f"HDF5 {h5py.version.hdf5_version}, h5py {h5py.version.version}")
+        return 0
+    if command == "grow":
+        grow(Path(folders[0]))
         return 0
     return 0 if look(*map(Path, folders), command == "look") else 1
 

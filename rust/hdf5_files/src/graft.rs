@@ -9,11 +9,17 @@ use crate::tree::{Header, Tree};
 /// What the library's own nodes are overwritten with.
 const WIPED: u8 = 0x5a;
 
-/// Node sizes that are tried, from small to the largest; 0 stands for the least that can be planned.
-const NODE_SIZES: [u32; 6] = [0, 100, 300, 512, 2_048, 65_536];
+/// Stands for the least node size that can be planned.
+const LEAST: u32 = 0;
+
+/// Stands for the node size of one leaf that the records fill.
+const FILLED: u32 = 1;
+
+/// Node sizes that are tried, up to the largest.
+const NODE_SIZES: [u32; 7] = [LEAST, FILLED, 100, 300, 512, 2_048, 65_536];
 
 /// Those for trees of more records than `MANY`.
-const FOR_MANY: [u32; 3] = [0, 512, 65_536];
+const FOR_MANY: [u32; 3] = [LEAST, 512, 65_536];
 const MANY: u64 = 1_000;
 
 /// The node sizes for a tree of so many records.
@@ -65,7 +71,8 @@ pub fn graft(
     let mut all = Vec::new();
     for tree in trees {
         let node_size = match node_size {
-            0 => least(tree, sizes),
+            LEAST => least(tree, sizes),
+            FILLED => 10 + tree.records.len() as u32,
             _ => node_size,
         };
         let written = write(tree, &tree.records, node_size, sizes, grafted.len() as u64)?;
@@ -113,16 +120,17 @@ fn told_by(kind: u8) -> usize {
     }
 }
 
-/// Whether our header and leaf are the library's, byte for byte; none where there are more nodes.
+/// Whether our header and leaf are the library's, byte for byte; none where there is not one node.
 pub fn equal_leaf(file: &[u8], sizes: Sizes, tree: &Tree) -> Result<Option<bool>, Fault> {
     let Header {
         at,
         node_size,
         root,
         depth,
+        records,
         ..
     } = tree.header;
-    if depth > 0 {
+    if depth > 0 || records == 0 {
         return Ok(None);
     }
     let ours = write(tree, &tree.records, node_size, sizes, root)?;

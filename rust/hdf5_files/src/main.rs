@@ -18,9 +18,14 @@ use library::{files_py, Folder};
 use list::{Entries, List};
 use tree::Tree;
 
-/// Files up to this length are also damaged, in every way and at nodes of this size.
-const SMALL: usize = 100_000;
+/// Trees of up to so many records are also damaged, in every way and at nodes of this size.
+const MOST_DAMAGED: u64 = 1_000;
 const DAMAGED_NODE_SIZE: u32 = 300;
+
+/// Trees of up to so many records are also changed by the library, at nodes of these sizes. In nodes
+/// of 160 bytes and fewer the library fails to change its own trees.
+const MOST_GROWN: u64 = 10_000;
+const GROWN_NODE_SIZES: [u32; 4] = [300, 512, 2_048, 65_536];
 
 /// A real file, read.
 struct Real {
@@ -44,20 +49,24 @@ fn run() -> Result<(), Fault> {
     let folder = Folder::new()?;
     let made = folder.inner("real")?;
     files_py("make", &[&made])?;
-    println!("type  records  sizes  library: node size, depth, nodes   ours: node size/depth/nodes");
-    let (mut grafts, mut damages) = (0, 0);
+    println!(
+        "type  records  sizes  library: node size, depth, nodes   ours: node size/depth/nodes"
+    );
+    let (mut grafts, mut grown, mut damages) = (0, 0, 0);
     for path in listed(made.path())? {
-        let mut real = Real::read(&path).map_err(|f| format!("{}: {f}", path.display()))?;
+        let mut real = Real::read(&path)?;
         let ours = folder.inner("ours")?;
         let written = real.graft_all(&ours)?;
         files_py("look", &[&made, &ours])?;
         grafts += written.len();
         real.print(&written)?;
-        if real.bytes.len() < SMALL {
-            damages += real.notices(&folder, &made)?;
-        }
+        grown += real.grow(&folder)?;
+        damages += real.notices(&folder, &made)?;
     }
-    println!("{grafts} files with our trees read by the library; {damages} damages noticed");
+    println!(
+        "{grafts} files with our trees read by the library, {grown} changed by it and read again; \
+         {damages} damages noticed"
+    );
     Ok(())
 }
 
@@ -75,6 +84,10 @@ fn listed(folder: &Path) -> Result<Vec<PathBuf>, Fault> {
 impl Real {
     /// Reads a file and holds it to its list.
     fn read(path: &Path) -> Result<Self, Fault> {
+        Self::try_read(path).map_err(|fault| format!("{}: {fault}", path.display()))
+    }
+
+    fn try_read(path: &Path) -> Result<Self, Fault> {
         let bytes = fs::read(path).map_err(|e| e.to_string())?;
         let text = fs::read_to_string(path.with_extension("txt")).map_err(|e| e.to_string())?;
         let list = List::read(&text)?;
@@ -93,19 +106,53 @@ impl Real {
     }
 
     fn check(&self) -> Result<(), Fault> {
-        check::file(&self.bytes, self.list.sizes, &self.trees, &self.list.entries)
+        check::file(
+            &self.bytes,
+            self.list.sizes,
+            &self.trees,
+            &self.list.entries,
+        )
     }
 
     /// A copy of the file for each node size, with our trees of that size.
     fn graft_all(&self, folder: &Folder) -> Result<Vec<Vec<Written>>, Fault> {
         let mut all = Vec::new();
+        if self.unread() {
+            return Ok(all);
+        }
         for node_size in graft::node_sizes(self.trees[0].header.records) {
-            let made = graft::graft(&self.bytes, self.list.sizes, &self.trees, *node_size);
-            let (grafted, written) = made?;
-            self.save(folder, &node_size.to_string(), &grafted)?;
-            all.push(written);
+            all.push(self.graft(folder, *node_size)?);
         }
         Ok(all)
+    }
+
+    /// A copy of the file with our trees in nodes of this size.
+    fn graft(&self, folder: &Folder, node_size: u32) -> Result<Vec<Written>, Fault> {
+        let made = graft::graft(&self.bytes, self.list.sizes, &self.trees, node_size);
+        let (grafted, written) = made?;
+        self.save(folder, &node_size.to_string(), &grafted)?;
+        Ok(written)
+    }
+
+    /// Whether the library cannot read its own file.
+    fn unread(&self) -> bool {
+        self.name.ends_with("unread")
+    }
+
+    /// Has the library change files with our trees, and reads these again. Returns how many.
+    fn grow(&self, folder: &Folder) -> Result<usize, Fault> {
+        if self.unread() || self.trees[0].header.records > MOST_GROWN {
+            return Ok(0);
+        }
+        let grown = folder.inner("grown")?;
+        for node_size in GROWN_NODE_SIZES {
+            self.graft(&grown, node_size)?;
+        }
+        files_py("grow", &[&grown])?;
+        for path in listed(grown.path())? {
+            Real::read(&path)?;
+        }
+        Ok(GROWN_NODE_SIZES.len())
     }
 
     fn save(&self, folder: &Folder, variant: &str, bytes: &[u8]) -> Result<(), Fault> {
@@ -144,6 +191,9 @@ impl Real {
 
     /// Damages what is read and what is written; each damage must be noticed. Returns how many.
     fn notices(&mut self, folder: &Folder, made: &Folder) -> Result<usize, Fault> {
+        if self.unread() || !(1..=MOST_DAMAGED).contains(&self.trees[0].header.records) {
+            return Ok(0);
+        }
         let damaged = folder.inner("damaged")?;
         let mut count = 0;
         for tree in &self.trees {

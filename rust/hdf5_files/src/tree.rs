@@ -73,8 +73,14 @@ fn tree(file: &[u8], header: Header, sizes: Sizes) -> Result<Tree, Fault> {
     let [refusal, _, _, put_out, leaves, internal, inner] = answer;
     same("refusal of collecting", refusal, 0)?;
     same("records put out", put_out, header.records)?;
-    same("leaves", leaves, inner + 1)?;
-    let nodes = Walk::new(file, header, sizes).nodes()?;
+    let nodes = match header.records {
+        // The library's tree without records has no node.
+        0 => Vec::new(),
+        _ => {
+            same("leaves", leaves, inner + 1)?;
+            Walk::new(file, header, sizes).nodes()?
+        }
+    };
     same("nodes read", leaves + internal, nodes.len() as u64)?;
     Ok(Tree {
         header,
