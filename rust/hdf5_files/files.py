@@ -1,7 +1,7 @@
 """Real HDF5 files: made with the HDF5 library, and everything in them looked up by it.
 
     files.py make REAL              makes the files, and a list beside each of what the library says
-    files.py look REAL OURS         the library must say the same of each file NAME.VARIANT.h5 in OURS
+    files.py look REAL OURS         the library must say the same of each NAME.VARIANT.h5 in OURS
     files.py refuse REAL DAMAGED    the library must say something else of each file, or fail
     files.py grow OURS              adds and removes entries in each file, and makes a list of it
 """
@@ -17,8 +17,8 @@ import h5py
 import numpy as np
 from h5py import h5, h5a, h5d, h5f, h5g, h5l, h5p, h5s, h5t
 
-# Kind, entries, size of offsets, size of lengths, what is done when all are made: nothing, "thinned"
-# (every third is removed again) or "emptied". A file that the library cannot read back is "unread".
+# Kind, entries, size of offsets, size of lengths, what is done when all are made: nothing,
+# "thinned" (a third is removed again) or "emptied". What the library cannot read back is "unread".
 FILES = [
     ("links", 10, 2, 2, "unread"),
     ("links", 10, 4, 4, ""),
@@ -252,11 +252,10 @@ def target(i):
 
 
 def link_at(group, index, place):
-    """The name of the link at a place of an index, as its tree has them: found by subtree totals."""
+    """The name of the link at a place of an index's tree, which subtree totals lead to."""
     text = ctypes.create_string_buffer(80)
-    numbers = ctypes.c_uint64(place), text, ctypes.c_size_t(len(text)), ctypes.c_int64(0)
-    group_id = ctypes.c_int64(group.id)
-    if LIBRARY.H5Lget_name_by_idx(group_id, b".", index, h5.ITER_NATIVE, *numbers) <= 0:
+    where = ctypes.c_int64(group.id), b".", index, h5.ITER_NATIVE, ctypes.c_uint64(place)
+    if LIBRARY.H5Lget_name_by_idx(*where, text, ctypes.c_size_t(len(text)), ctypes.c_int64(0)) <= 0:
         raise ValueError(f"no link at place {place}")
     return text.value
 
@@ -274,8 +273,8 @@ def due(found, wanted, what):
 def make(folder):
     """Makes every file and its list."""
     for kind, entries, offsets, lengths, then in FILES + (LONG_FILES if LONG else []):
-        path = folder / "-".join(filter(None, (kind, str(entries), str(offsets), str(lengths), then)))
-        path = path.with_suffix(".h5")
+        named = f"{kind}-{entries}-{offsets}-{lengths}" + (then and f"-{then}")
+        path = folder / f"{named}.h5"
         creation = h5p.create(h5p.FILE_CREATE)
         creation.set_sizes(offsets, lengths)
         access = h5p.create(h5p.FILE_ACCESS)
@@ -291,6 +290,7 @@ def make(folder):
             write_list(path, listed(enumerate(map(name, numbers(entries)))))
         else:
             write_list(path, said(path))
+    print(f"HDF5 {h5py.version.hdf5_version}, h5py {h5py.version.version}")
 
 
 def write_list(path, lines):
@@ -348,40 +348,51 @@ def compare(real, path, dump):
     copy.unlink()
 
 
-def each(real_folder, folder):
-    """Every file of the folder with the first fault that shows in it, or none."""
+def fault(real, path, dump):
+    """The first fault that shows in a file, or none."""
+    try:
+        compare(real, path, dump)
+    except (ValueError, RuntimeError, KeyError, OSError, subprocess.TimeoutExpired) as shown:
+        return str(shown)
+    return None
+
+
+def passes_apart(real, path, dump):
+    """Whether no fault shows in a file, seen in a process of its own: a damage may end it."""
+    child = os.fork()
+    if child == 0:
+        os._exit(1 if fault(real, path, dump) else 0)
+    return os.waitpid(child, 0)[1] == 0
+
+
+def files(real_folder, folder):
+    """Every file of the folder with the real one and what h5dump prints of that."""
     dumps = {}
     for path in sorted(folder.glob("*.h5")):
         real = real_folder / (path.name.split(".")[0] + ".h5")
         if real not in dumps:
             dumps = {real: dumped(real)}
-        try:
-            compare(real, path, dumps[real])
-            yield path, None
-        except (ValueError, RuntimeError, KeyError, OSError, subprocess.TimeoutExpired) as fault:
-            yield path, str(fault)
+        yield real, path, dumps[real]
 
 
-def look(real, folder, wanted):
-    """Prints each file that is not as wanted, good or faulty; returns whether there is none."""
-    wrong = 0
-    for path, fault in each(real, folder):
-        if (fault is None) != wanted:
-            wrong += 1
-            print(f"{path.name}: {fault or 'the damage is not noticed'}")
-    return wrong == 0
+def look(real_folder, folder):
+    """What is wrong with the files of the folder."""
+    shown = ((path, fault(real, path, dump)) for real, path, dump in files(real_folder, folder))
+    return [f"{path.name}: {text}" for path, text in shown if text]
+
+
+def refuse(real_folder, folder):
+    """The damaged files that pass."""
+    passing = (given[1] for given in files(real_folder, folder) if passes_apart(*given))
+    return [f"{path.name}: the damage is not noticed" for path in passing]
 
 
 def main():
     command, *folders = sys.argv[1:]
-    if command == "make":
-        make(Path(folders[0]))
-        print(f"HDF5 {h5py.version.hdf5_version}, h5py {h5py.version.version}")
-        return 0
-    if command == "grow":
-        grow(Path(folders[0]))
-        return 0
-    return 0 if look(*map(Path, folders), command == "look") else 1
+    commands = {"make": make, "grow": grow, "look": look, "refuse": refuse}
+    wrong = commands[command](*map(Path, folders)) or []
+    print("".join(f"{line}\n" for line in wrong), end="")
+    return 1 if wrong else 0
 
 
 if __name__ == "__main__":

@@ -22,8 +22,8 @@ use tree::Tree;
 const MOST_DAMAGED: u64 = 1_000;
 const DAMAGED_NODE_SIZE: u32 = 300;
 
-/// Trees of up to so many records are also changed by the library, at nodes of these sizes. In nodes
-/// of 160 bytes and fewer the library fails to change its own trees.
+/// Trees of up to so many records are also changed by the library, at nodes of these sizes. In
+/// nodes of 160 bytes and fewer the library fails to change even its own trees.
 const MOST_GROWN: u64 = 10_000;
 const GROWN_NODE_SIZES: [u32; 4] = [300, 512, 2_048, 65_536];
 
