@@ -18,8 +18,9 @@ const FILLED: u32 = 1;
 /// Node sizes that are tried, up to the largest.
 const NODE_SIZES: [u32; 7] = [LEAST, FILLED, 100, 300, 512, 2_048, 65_536];
 
-/// Those for trees of more records than `MANY`.
-const FOR_MANY: [u32; 3] = [LEAST, 512, 65_536];
+/// Those for trees of more records than `MANY`. In nodes of 4,096 bytes 100,000 links make a tree of
+/// depth 2 whose counts have two bytes by the leaf's capacity, and one by that of an internal node.
+const FOR_MANY: [u32; 4] = [LEAST, 512, 4_096, 65_536];
 const MANY: u64 = 1_000;
 
 /// The node sizes for a tree of so many records.
@@ -49,15 +50,18 @@ pub enum Damage {
     Dropped,
     /// The middle record stands where the next one should, and the next one before it.
     Swapped,
-    /// A byte of a written node is another, and its checksum is not.
-    Unsummed,
+    /// A byte of the first leaf is another, and its checksum is not.
+    LeafUnsummed,
+    /// The same of the root.
+    RootUnsummed,
 }
 
-pub const DAMAGES: [Damage; 4] = [
+pub const DAMAGES: [Damage; 5] = [
     Damage::Changed,
     Damage::Dropped,
     Damage::Swapped,
-    Damage::Unsummed,
+    Damage::LeafUnsummed,
+    Damage::RootUnsummed,
 ];
 
 /// The file with our trees, in nodes of this size, at its end, and the library's nodes wiped.
@@ -99,11 +103,14 @@ pub fn damaged(
         Damage::Changed => records[middle + told_by(tree.header.kind)] ^= 1,
         Damage::Dropped => drop(records.drain(middle..middle + size)),
         Damage::Swapped => records[middle - size..middle + size].rotate_left(size),
-        Damage::Unsummed => {}
+        Damage::LeafUnsummed | Damage::RootUnsummed => {}
     }
     let mut written = write(tree, &records, node_size, sizes, grafted.len() as u64)?;
-    if let Damage::Unsummed = damage {
-        written.image[6] ^= 1;
+    let root = written.image.len() - node_size as usize;
+    match damage {
+        Damage::LeafUnsummed => written.image[6] ^= 1,
+        Damage::RootUnsummed => written.image[root + 6] ^= 1,
+        _ => {}
     }
     put(&mut grafted, tree, &written);
     set_end(&mut grafted, sizes);
