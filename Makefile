@@ -1,7 +1,7 @@
 # Commands: make test (proofs, must-fail edits, comparisons), make files (real HDF5 files, which make
 # test runs too), make run, make bench.
 # HDF5_PURE names the folder of hdf5-pure to compare with, a relative name from here; unset, that
-# comparison is left out.
+# comparison is left out. HDF5_FILES=all makes real HDF5 files more and larger, in some ten minutes.
 
 SHELL := bash
 .SHELLFLAGS := -eu -o pipefail -c
