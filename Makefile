@@ -51,7 +51,8 @@ run: $(ARCHIVES)
 	@$(CARGO) run --quiet --release --offline --package cli
 
 bench: $(ARCHIVES)
-	@$(CARGO) run --quiet --release --offline --package bench
+	@echo "- Called from the archives: $$(nm -u $(ARCHIVES) | awk '$$1 == "U" {print $$2}' | sort -u | xargs)"
+	$(CARGO) run --quiet --release --offline --package bench
 
 target/staticlib/lib%.a: crates.txt $(shell find crates -type f 2>/dev/null)
 	rt staticlib $*

@@ -4,7 +4,7 @@ use std::hint::black_box;
 
 use differential::random::Random;
 
-use crate::timing::{Contender, Section};
+use crate::timing::{grouped, Contender, Section};
 
 const SIZES: [usize; 7] = [4, 12, 16, 64, 512, 65_536, 16 << 20];
 
@@ -23,7 +23,7 @@ fn plain_c(data: &[u8]) -> u32 {
 /// its mark in the oracle.
 pub fn run() {
     let bytes = Random::new(1).bytes(SIZES[SIZES.len() - 1]);
-    let mut section = Section::new("lookup3, nanoseconds a call", "bytes");
+    let mut section = Section::new("lookup3, nanoseconds a call", &["bytes"]);
     for size in SIZES {
         let data = &bytes[..size];
         let mut contenders = vec![
@@ -35,7 +35,7 @@ pub fn run() {
                 oracle::jenkins_lookup3(black_box(data))
             }));
         }
-        section.row(&size.to_string(), 1, contenders);
+        section.row(&[grouped(size as f64)], 1, contenders);
     }
 }
 

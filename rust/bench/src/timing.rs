@@ -1,13 +1,15 @@
-//! The one timing helper: contenders in interleaved rounds, told by medians.
+//! The one timing helper: contenders in interleaved rounds, told by medians in a markdown table.
 
 use std::hint::black_box;
 use std::time::{Duration, Instant};
+
+use crate::memory::{taken, Taken};
 
 const LEAST_ROUND: Duration = Duration::from_millis(4);
 const MOST_ROUNDS: u128 = 31;
 const LEAST_ROUNDS: u128 = 5;
 /// Rounds end after this long, if there were enough of them.
-const BUDGET: Duration = Duration::from_secs(4);
+const BUDGET: Duration = Duration::from_secs(3);
 
 /// One that is timed: it makes a given number of calls.
 pub struct Contender<'a> {
@@ -59,6 +61,11 @@ impl<'a> Contender<'a> {
         let pairs = self.rounds.iter().zip(&other.rounds);
         median(pairs.map(|(own, theirs)| own / theirs).collect())
     }
+
+    /// What one call takes.
+    fn taken(&mut self) -> Taken {
+        taken(&mut || (self.calls)(1))
+    }
 }
 
 /// Times all contenders, one round of each in turn.
@@ -79,15 +86,15 @@ fn median(mut numbers: Vec<f64>) -> f64 {
     numbers[numbers.len() / 2]
 }
 
-/// A part of the benchmark's print: a heading, then a row for each input.
-pub struct Section {
-    inputs: &'static str,
+/// A part of the benchmark's print: a heading, then a table with a row for each input.
+pub struct Section<'a> {
+    inputs: &'a [&'a str],
     headed: bool,
 }
 
-impl Section {
-    pub fn new(title: &str, inputs: &'static str) -> Section {
-        println!("\n{title}");
+impl<'a> Section<'a> {
+    pub fn new(title: &str, inputs: &'a [&'a str]) -> Section<'a> {
+        println!("\n### {title}\n");
         Section {
             inputs,
             headed: false,
@@ -95,37 +102,64 @@ impl Section {
     }
 
     /// Times contenders on one input and prints their nanoseconds for each of `units` in a call,
-    /// and the first one's time over each of the others'.
-    pub fn row(&mut self, input: &str, units: u64, mut contenders: Vec<Contender>) {
+    /// the first one's time over each of the others', and what a call of the first one takes; of
+    /// the Rust, its heap.
+    pub fn row(&mut self, input: &[String], units: u64, mut contenders: Vec<Contender>) {
         time(&mut contenders);
+        let all: Vec<Taken> = contenders.iter_mut().map(Contender::taken).collect();
         let (first, others) = contenders.split_first().expect("someone is timed");
+        let mut columns: Vec<(String, String)> = Vec::new();
+        for one in &contenders {
+            let each = one.nanoseconds() / units as f64;
+            columns.push((one.name.to_string(), shown(each)));
+        }
+        for one in others {
+            let name = format!("{}/{}", first.name, one.name);
+            columns.push((name, shown(first.over(one))));
+        }
+        columns.push(("stack".to_string(), grouped(all[0].stack as f64)));
+        columns.push(("new pages".to_string(), all[0].pages.to_string()));
+        for (one, taken) in contenders.iter().zip(&all) {
+            if ["Rattle", "Rust"].contains(&one.name) {
+                let name = format!("heap of {}", one.name);
+                columns.push((name, grouped(taken.heap as f64)));
+            }
+        }
+        self.print(input, &columns);
+    }
+
+    fn print(&mut self, input: &[String], columns: &[(String, String)]) {
         if !self.headed {
             self.headed = true;
-            let names = contenders.iter().map(|one| format!("{:>14}", one.name));
-            let over = others
-                .iter()
-                .map(|one| format!("{:>18}", format!("{}/{}", first.name, one.name)));
-            println!(
-                "{:>26}{}",
-                self.inputs,
-                names.chain(over).collect::<String>()
-            );
+            let names = columns.iter().map(|(name, _)| name.as_str());
+            let names: Vec<&str> = self.inputs.iter().copied().chain(names).collect();
+            println!("| {} |", names.join(" | "));
+            println!("|{}", "---:|".repeat(names.len()));
         }
-        let times = contenders
-            .iter()
-            .map(|one| format!("{:>14}", shown(one.nanoseconds() / units as f64)));
-        let over = others
-            .iter()
-            .map(|one| format!("{:>18}", shown(first.over(one))));
-        println!("{input:>26}{}", times.chain(over).collect::<String>());
+        let cells = columns.iter().map(|(_, cell)| cell.as_str());
+        let cells: Vec<&str> = input.iter().map(String::as_str).chain(cells).collect();
+        println!("| {} |", cells.join(" | "));
     }
 }
 
 /// Small numbers with more places than large ones.
 fn shown(number: f64) -> String {
     match number {
-        100.0.. => format!("{number:.0}"),
+        100.0.. => grouped(number),
         0.1.. => format!("{number:.2}"),
         _ => format!("{number:.6}"),
     }
+}
+
+/// A whole number, with a comma before each three digits.
+pub fn grouped(number: f64) -> String {
+    let digits = format!("{number:.0}");
+    let mut text = String::new();
+    for (i, digit) in digits.chars().enumerate() {
+        if i > 0 && (digits.len() - i) % 3 == 0 {
+            text.push(',');
+        }
+        text.push(digit);
+    }
+    text
 }

@@ -5,36 +5,27 @@ use std::hint::black_box;
 use differential::compare::bytes::repeated;
 use differential::compare::nodes::Form;
 use differential::compare::rust;
-use differential::model::{self, Geometry, Plan};
+use differential::model;
 use differential::random::Random;
 use differential::rattle::Rattle;
 use differential::subject::{Call, Subject, Writing};
 
+use crate::cases::{trees, Case, INPUT};
 use crate::timing::{Contender, Section};
-
-const GEOMETRIES: [Geometry; 3] = [
-    Geometry::new(512, 11, 8),
-    Geometry::new(65_536, 24, 8),
-    Geometry::new(40, 8, 8),
-];
-const COUNTS: [u64; 3] = [1_000, 100_000, 5_000_000];
 
 pub fn run() {
     if Rattle.is_model(Call::Write) {
         return;
     }
-    let title = "write, nanoseconds a record; the buffers of Rattle are ready";
-    let mut section = Section::new(title, "NS/RS/OW, records");
-    for geometry in GEOMETRIES {
-        for count in COUNTS {
-            if let Ok(plan) = model::plan(count, geometry) {
-                time(&mut section, geometry, count, &plan);
-            }
-        }
+    let title = "Write, nanoseconds a record; the buffers of Rattle are ready";
+    let mut section = Section::new(title, &INPUT);
+    for case in trees() {
+        time(&mut section, &case);
     }
 }
 
-fn time(section: &mut Section, geometry: Geometry, count: u64, plan: &Plan) {
+fn time(section: &mut Section, case: &Case) {
+    let (geometry, count) = (case.geometry, case.record_count);
     let length = count as usize * usize::from(geometry.record_size);
     let records = repeated(&mut Random::new(1), length);
     let given = &Writing {
@@ -46,11 +37,11 @@ fn time(section: &mut Section, geometry: Geometry, count: u64, plan: &Plan) {
         records: &records,
     };
     let mut header = vec![0; model::header_size(geometry.offset_size, given.length_size)];
-    let mut image = vec![0; plan.image_size as usize];
+    let mut image = vec![0; case.plan.image_size as usize];
     let answer = Rattle.write(given, &mut header, &mut image);
     assert_eq!(answer[0], 0, "{count} records at {geometry} are written");
     let written = image.clone();
-    let nodes = summed(geometry, count, plan);
+    let nodes = summed(case);
     let mut contenders = vec![Contender::new("Rattle", || {
         Rattle.write(black_box(given), &mut header, &mut image)
     })];
@@ -62,13 +53,13 @@ fn time(section: &mut Section, geometry: Geometry, count: u64, plan: &Plan) {
     contenders.push(Contender::new("checksums", || {
         sums(black_box(&written), geometry.node_size as usize, &nodes)
     }));
-    section.row(&format!("{geometry}, {count}"), count, contenders);
+    section.row(&case.input(), count, contenders);
 }
 
 /// How many bytes each node's checksum is of.
-fn summed(geometry: Geometry, count: u64, plan: &Plan) -> Vec<usize> {
-    let form = Form::new(geometry, plan.depth);
-    let nodes = plan.nodes(count).into_iter();
+fn summed(case: &Case) -> Vec<usize> {
+    let form = Form::new(case.geometry, case.plan.depth);
+    let nodes = case.plan.nodes(case.record_count).into_iter();
     nodes
         .map(|node| form.length(node.level, node.records as usize) - 4)
         .collect()
