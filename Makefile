@@ -1,12 +1,12 @@
 # Commands: make test (proofs, must-fail edits, comparisons), make files (real HDF5 files, which make
-# test runs too), make run, make bench.
+# test runs too), make run, make bench, make soak.
 # HDF5_PURE names the folder of hdf5-pure to compare with, a relative name from here; unset, that
 # comparison is left out. HDF5_FILES=all makes real HDF5 files more and larger, in some ten minutes.
 
 SHELL := bash
 .SHELLFLAGS := -eu -o pipefail -c
 .ONESHELL:
-.PHONY: test files run bench
+.PHONY: test files run bench soak
 
 # The crates whose C functions are linked from Rust.
 EXPORTED := checksum capi
@@ -53,6 +53,14 @@ run: $(ARCHIVES)
 bench: $(ARCHIVES)
 	@echo "- Called from the archives: $$(nm -u $(ARCHIVES) | awk '$$1 == "U" {print $$2}' | sort -u | xargs)"
 	$(CARGO) run --quiet --release --offline --package bench
+
+# MINUTES in all: half of them for the comparisons from random seeds, half for the fuzzer.
+MINUTES := 10
+CORES := 2
+soak: $(ARCHIVES)
+	@seconds=$$(($(MINUTES) * 30))
+	($(CARGO) run --quiet --release --offline --package differential --bin soak $$seconds $(CORES))
+	fuzz/run.sh $$seconds $(CORES)
 
 target/staticlib/lib%.a: crates.txt $(shell find crates -type f 2>/dev/null)
 	rt staticlib $*

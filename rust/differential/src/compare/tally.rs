@@ -35,6 +35,16 @@ impl Tally {
         self.rust += u64::from(with_rust);
     }
 
+    /// All cases.
+    pub fn cases(&self) -> u64 {
+        self.answers.iter().sum()
+    }
+
+    /// The cases that were held to the Rust too.
+    pub fn with_rust(&self) -> u64 {
+        self.rust
+    }
+
     /// Those of the numbers that were never answered.
     pub fn missing(&self, numbers: &[u64]) -> Vec<u64> {
         let unmet = |&&number: &&u64| self.answers[number as usize] == 0;
@@ -44,7 +54,6 @@ impl Tally {
 
 impl fmt::Display for Tally {
     fn fmt(&self, to: &mut fmt::Formatter) -> fmt::Result {
-        let cases: u64 = self.answers.iter().sum();
         let classes: Vec<String> = self
             .classes
             .iter()
@@ -56,8 +65,9 @@ impl fmt::Display for Tally {
             .collect();
         write!(
             to,
-            "{}: {cases} cases ({}), {} also held to the Rust; accepted {}, refused by {}",
+            "{}: {} cases ({}), {} also held to the Rust; accepted {}, refused by {}",
             self.call.name(),
+            self.cases(),
             classes.join(", "),
             self.rust,
             self.answers[0],

@@ -1,0 +1,26 @@
+/* How a fuzzer's input is laid out: a front of fixed places, little-endian, and then the file. */
+#ifndef NULDRAFON_FUZZ_INPUT_H
+#define NULDRAFON_FUZZ_INPUT_H
+
+enum {
+    AT_FLAGS = 0,
+    AT_OFFSET_SIZE = 1,
+    AT_LENGTH_SIZE = 2,
+    AT_OUTPUT_LENGTH = 3, /* 2 bytes, taken modulo MOST_OUTPUT + 1 */
+    AT_HEADER = 5,        /* 8 bytes: where the header reader is sent */
+    AT_TREE_TYPE = 13,    /* from here on: what the collector is given, unless it gets the header */
+    AT_NODE_SIZE = 14,
+    AT_RECORD_SIZE = 18,
+    AT_DEPTH = 20,
+    AT_ROOT_ADDRESS = 22,
+    AT_ROOT_RECORDS = 30,
+    AT_TOTAL_RECORDS = 32,
+    AT_FILE = 40,
+    MOST_OUTPUT = 4096,
+};
+
+/* The flags: checksums are set right first; the collector is given the header that was read; the
+ * lent buffers end, and do not begin, at a page that cannot be touched. */
+enum { MENDED = 1, BY_HEADER = 2, AT_THE_END = 4 };
+
+#endif

@@ -1,0 +1,139 @@
+/* The fuzzer's driver: each input goes through the header reader and the collector of libcapi.a and
+ * through the shadow, and the two must agree in every number and every byte. */
+#include <inttypes.h>
+#include <stdio.h>
+#include <stdlib.h>
+#include <string.h>
+
+#include "btree_v2.h"
+#include "input.h"
+#include "lent.h"
+#include "shadow.h"
+
+enum { CAUSES = 17 };
+
+/* The places that are lent to the archive: the file, the output and the answer. */
+static struct lent file_place, output_place, answer_place;
+/* How often each answer was given. */
+static uint64_t inputs, parsed[CAUSES], collected[CAUSES];
+
+static void tell(const char *call, const uint64_t counts[CAUSES]) {
+    fprintf(stderr, "%s:", call);
+    for (int i = 0; i < CAUSES; i++)
+        if (counts[i] != 0) fprintf(stderr, " %d: %" PRIu64, i, counts[i]);
+    fputc('\n', stderr);
+}
+
+static void tell_all(void) {
+    fprintf(stderr, "agreed on %" PRIu64 " inputs, by the number of the answer\n", inputs);
+    tell("header reads", parsed);
+    tell("collectings", collected);
+}
+
+int LLVMFuzzerInitialize(int *count, char ***words);
+int LLVMFuzzerInitialize(int *count, char ***words) {
+    (void)count, (void)words;
+    file_place = lent_map();
+    output_place = lent_map();
+    answer_place = lent_map();
+    atexit(tell_all);
+    return 0;
+}
+
+/* Ends the process where two parts of memory differ. */
+static void hold(const void *ours, const void *theirs, size_t bytes, const char *what) {
+    if (bytes == 0 || memcmp(ours, theirs, bytes) == 0) return;
+    fprintf(stderr, "the archive and the shadow differ: %s\n", what);
+    abort();
+}
+
+/* Memory of exactly this size, so that the sanitizer sees its ends; filled by a pattern. */
+static uint8_t *exact(size_t length) {
+    uint8_t *bytes = malloc(length == 0 ? 1 : length);
+    if (bytes == NULL) abort();
+    for (size_t i = 0; i < length; i++) bytes[i] = (uint8_t)(29 * i) ^ 0xa5;
+    return bytes;
+}
+
+/* A copy in a place of the archive's. */
+static uint8_t *lend(struct lent place, const void *bytes, size_t length, bool at_the_end) {
+    uint8_t *at = lent_buffer(place, length, at_the_end);
+    if (length != 0) memcpy(at, bytes, length);
+    return at;
+}
+
+/* An answer to be filled, all of whose places are set before. */
+static uint64_t *unset(size_t places, bool at_the_end) {
+    size_t bytes = places * sizeof(uint64_t);
+    return memset(lent_buffer(answer_place, bytes, at_the_end), 0xff, bytes);
+}
+
+/* The header read by both. */
+static void parse(struct source s, const uint8_t *front, bool at_the_end, uint64_t due[8]) {
+    uint64_t offset = number(front + AT_HEADER, 8);
+    uint8_t ow = front[AT_OFFSET_SIZE], lw = front[AT_LENGTH_SIZE];
+    shadow_parse(s, offset, ow, lw, due);
+    const uint8_t *file = lend(file_place, s.file, s.length, at_the_end);
+    uint64_t *answer = unset(8, at_the_end);
+    btree_v2_parse(file, s.length, offset, ow, lw, answer);
+    hold(answer, due, 8 * sizeof *due, "the header");
+    hold(file, s.file, s.length, "the file, after the header was read");
+    parsed[due[0]]++;
+}
+
+/* What the collector is given: the header that was read, or the numbers of the front. */
+static struct tree given(const uint8_t *front, const uint64_t header[8]) {
+    struct tree t = {.offset_size = front[AT_OFFSET_SIZE]};
+    bool by_header = (front[AT_FLAGS] & BY_HEADER) != 0 && header[0] == 0;
+    t.tree_type = by_header ? (uint8_t)header[1] : front[AT_TREE_TYPE];
+    t.node_size = (uint32_t)(by_header ? header[2] : number(front + AT_NODE_SIZE, 4));
+    t.record_size = (uint16_t)(by_header ? header[3] : number(front + AT_RECORD_SIZE, 2));
+    t.depth = (uint16_t)(by_header ? header[4] : number(front + AT_DEPTH, 2));
+    t.root_address = by_header ? header[5] : number(front + AT_ROOT_ADDRESS, 8);
+    t.root_records = (uint16_t)(by_header ? header[6] : number(front + AT_ROOT_RECORDS, 2));
+    t.total_records = by_header ? header[7] : number(front + AT_TOTAL_RECORDS, 8);
+    return t;
+}
+
+/* The tree collected by both. */
+static void collect(struct source s, struct tree t, size_t length, bool at_the_end) {
+    uint64_t due[7];
+    uint8_t *expected = exact(length);
+    uint8_t *output = lend(output_place, expected, length, at_the_end);
+    if (s.mend) {
+        shadow_collect(s, t, expected, length, due);
+        memcpy(expected, output, length);
+        s.mend = false;
+    }
+    shadow_collect(s, t, expected, length, due);
+    const uint8_t *file = lend(file_place, s.file, s.length, at_the_end);
+    uint64_t *answer = unset(7, at_the_end);
+    btree_v2_collect(file, s.length, t.tree_type, t.node_size, t.record_size, t.depth,
+                     t.root_address, t.root_records, t.total_records, t.offset_size, output,
+                     length, answer);
+    hold(answer, due, sizeof due, "the collecting");
+    hold(output, expected, length, "the output");
+    hold(file, s.file, s.length, "the file, after the collecting");
+    collected[due[0]]++;
+    free(expected);
+}
+
+int LLVMFuzzerTestOneInput(const uint8_t *data, size_t size);
+int LLVMFuzzerTestOneInput(const uint8_t *data, size_t size) {
+    if (size < AT_FILE || size - AT_FILE > LENT_MOST) return 0;
+    struct source s = {.length = size - AT_FILE, .mend = (data[AT_FLAGS] & MENDED) != 0};
+    s.file = exact(s.length);
+    if (s.length != 0) memcpy(s.file, data + AT_FILE, s.length);
+    bool at_the_end = (data[AT_FLAGS] & AT_THE_END) != 0;
+    uint64_t header[8];
+    if (s.mend) {
+        uint64_t offset = number(data + AT_HEADER, 8);
+        shadow_parse(s, offset, data[AT_OFFSET_SIZE], data[AT_LENGTH_SIZE], header);
+    }
+    parse((struct source){s.file, s.length, false}, data, at_the_end, header);
+    size_t output = number(data + AT_OUTPUT_LENGTH, 2) % (MOST_OUTPUT + 1);
+    collect(s, given(data, header), output, at_the_end);
+    free(s.file);
+    inputs++;
+    return 0;
+}

@@ -1,0 +1,120 @@
+/* Writes the fuzzer's first inputs into a folder: trees as btree_v2_write writes them, and towers of
+ * one node for each of 33 levels. */
+#include <stdio.h>
+#include <stdlib.h>
+#include <string.h>
+
+#include "btree_v2.h"
+#include "checksum.h"
+#include "input.h"
+
+/* The deepest level, and where the totals' widths stand in the answer of btree_v2_node_info. */
+enum { MOST_FILE = 1 << 15, IMAGE_AT = 48, DEEPEST = 32, AT_TOTALS = 68 };
+
+/* A tree: node size, record size, offset size, length size, records. */
+struct shape {
+    uint32_t node_size;
+    uint16_t record_size;
+    uint8_t offset_size, length_size;
+    uint64_t records;
+};
+
+static const struct shape shapes[] = {
+    {10, 1, 2, 2, 0},    {40, 8, 8, 8, 1},   {40, 8, 4, 2, 3},    {100, 1, 2, 8, 90},
+    {40, 8, 8, 8, 4},    {40, 8, 2, 4, 15},  {40, 8, 8, 8, 33},   {24, 1, 2, 2, 100},
+    {280, 1, 4, 2, 700}, {64, 9, 4, 4, 40},  {512, 11, 8, 8, 60}, {1034, 2, 8, 8, 512},
+    {26, 2, 2, 2, 60},   {64, 11, 8, 8, 90},
+};
+
+/* Towers; what stands for the records is the output's length in records. */
+static const struct shape towers[] = {
+    {65536, 1, 8, 8, 64}, {65545, 1, 2, 2, 9}, {4096, 3, 4, 4, 40}, {4294967295, 2, 8, 8, 30},
+};
+
+static uint8_t input[AT_FILE + MOST_FILE];
+
+static void place(uint8_t *at, uint64_t x, int width) {
+    for (; width > 0; width--, x >>= 8) *at++ = (uint8_t)x;
+}
+
+/* The front of an input: a tree's figures as the header reader answers them, the header at 0. */
+static void front(const struct shape *s, const uint64_t header[8], int flags) {
+    input[AT_FLAGS] = (uint8_t)flags;
+    input[AT_OFFSET_SIZE] = s->offset_size;
+    input[AT_LENGTH_SIZE] = s->length_size;
+    place(input + AT_OUTPUT_LENGTH, s->records * s->record_size, 2);
+    place(input + AT_HEADER, 0, 8);
+    input[AT_TREE_TYPE] = (uint8_t)header[1];
+    place(input + AT_NODE_SIZE, header[2], 4);
+    place(input + AT_RECORD_SIZE, header[3], 2);
+    place(input + AT_DEPTH, header[4], 2);
+    place(input + AT_ROOT_ADDRESS, header[5], 8);
+    place(input + AT_ROOT_RECORDS, header[6], 2);
+    place(input + AT_TOTAL_RECORDS, header[7], 8);
+}
+
+/* Writes the first bytes of the input to a file of the folder; 0 where that went well. */
+static int save(const char *folder, const char *kind, size_t i, int flags, size_t bytes) {
+    char name[4096];
+    snprintf(name, sizeof name, "%s/%s-%zu-%d", folder, kind, i, flags);
+    FILE *out = fopen(name, "wb");
+    if (out == NULL) return 1;
+    size_t put = fwrite(input, 1, bytes, out);
+    return fclose(out) != 0 || put != bytes;
+}
+
+/* A written tree. */
+static int tree(const char *folder, size_t i, int flags) {
+    static uint8_t records[MOST_FILE];
+    const struct shape *s = &shapes[i];
+    uint8_t *file = input + AT_FILE;
+    uint64_t answer[5], header[8];
+    size_t length = s->records * s->record_size;
+    for (size_t j = 0; j < length; j++) records[j] = (uint8_t)(j * 7 + i);
+    memset(file, 0, MOST_FILE);
+    btree_v2_write(5, s->records, s->record_size, s->node_size, s->offset_size, s->length_size,
+                   IMAGE_AT, records, length, file, IMAGE_AT, file + IMAGE_AT,
+                   MOST_FILE - IMAGE_AT, answer);
+    btree_v2_parse(file, MOST_FILE, 0, s->offset_size, s->length_size, header);
+    if (answer[0] != 0 || header[0] != 0) return 1;
+    front(s, header, flags);
+    return save(folder, "tree", i, flags, AT_FILE + IMAGE_AT + answer[4]);
+}
+
+/* One node of each level, each with one record and both pointers to the node below; no header. */
+static int tower(const char *folder, size_t i, int flags) {
+    const struct shape *s = &towers[i];
+    uint8_t *file = input + AT_FILE, *at = file;
+    uint64_t table[101], below = 0;
+    btree_v2_node_info(s->node_size, s->record_size, s->offset_size, DEEPEST, table);
+    memset(file, 0, MOST_FILE);
+    for (int level = 0; level <= DEEPEST; level++) {
+        uint8_t *node = at;
+        memcpy(node, level == 0 ? "BTLF" : "BTIN", 4);
+        at += 6 + s->record_size;
+        for (int child = 0; level > 0 && child < 2; child++) {
+            place(at, below, s->offset_size);
+            place(at + s->offset_size, 1, (int)table[1]);
+            at += s->offset_size + table[1] + table[AT_TOTALS + level - 1];
+        }
+        place(at, checksum_jenkins_lookup3(node, (size_t)(at - node)), 4);
+        at += 4;
+        below = (uint64_t)(node - file);
+    }
+    uint64_t header[8] = {0, 5, s->node_size, s->record_size, DEEPEST, below, 1, UINT64_MAX};
+    front(s, header, flags);
+    return save(folder, "tower", i, flags, (size_t)(at - input));
+}
+
+int main(int count, char **words) {
+    if (count != 2) return 2;
+    int failed = 0;
+    for (int flags = 0; flags < 8; flags++) {
+        for (size_t i = 0; i < sizeof shapes / sizeof *shapes; i++)
+            failed |= tree(words[1], i, flags);
+        for (size_t i = 0; i < sizeof towers / sizeof *towers; i++)
+            failed |= tower(words[1], i, flags);
+    }
+    if (failed) fprintf(stderr, "an input could not be made\n");
+    return failed;
+}

@@ -1,0 +1,33 @@
+/* A second reading of headers and trees in plain C, whose branches guide the fuzzer. */
+#ifndef NULDRAFON_FUZZ_SHADOW_H
+#define NULDRAFON_FUZZ_SHADOW_H
+
+#include <stdbool.h>
+#include <stddef.h>
+#include <stdint.h>
+
+/* A file; `mend` asks that a checksum that differs be set right in it, and is then no refusal. */
+struct source {
+    uint8_t *file;
+    size_t length;
+    bool mend;
+};
+
+/* What a collecting is given beside the file and the output. */
+struct tree {
+    uint32_t node_size;
+    uint16_t record_size, depth, root_records;
+    uint64_t root_address, total_records;
+    uint8_t tree_type, offset_size;
+};
+
+/* The number in `width` bytes, at most 8, lowest first. */
+uint64_t number(const uint8_t *bytes, size_t width);
+
+/* The answers of btree_v2_parse and btree_v2_collect. */
+void shadow_parse(struct source source, uint64_t offset, uint8_t offset_size, uint8_t length_size,
+                  uint64_t answer[8]);
+void shadow_collect(struct source source, struct tree tree, uint8_t *output, size_t output_length,
+                    uint64_t answer[7]);
+
+#endif
