@@ -1,7 +1,8 @@
 //! The one timing helper: contenders in interleaved rounds, told by medians in a markdown table.
+//! Time is the thread's processor time, so that other work on the machine counts for little.
 
 use std::hint::black_box;
-use std::time::{Duration, Instant};
+use std::time::Duration;
 
 use crate::memory::{taken, Taken};
 
@@ -10,6 +11,17 @@ const MOST_ROUNDS: u128 = 31;
 const LEAST_ROUNDS: u128 = 5;
 /// Rounds end after this long, if there were enough of them.
 const BUDGET: Duration = Duration::from_secs(3);
+
+extern "C" {
+    fn bench_c_nanoseconds() -> u64;
+}
+
+fn processor_time() -> Duration {
+    // SAFETY: the function takes nothing and only asks the system.
+    let run = unsafe { bench_c_nanoseconds() };
+    assert!(run > 0, "the system tells a thread's time");
+    Duration::from_nanos(run)
+}
 
 /// One that is timed: it makes a given number of calls.
 pub struct Contender<'a> {
@@ -34,9 +46,9 @@ impl<'a> Contender<'a> {
     }
 
     fn round(&mut self, repeats: u64) -> Duration {
-        let begin = Instant::now();
+        let begin = processor_time();
         (self.calls)(repeats);
-        begin.elapsed()
+        processor_time() - begin
     }
 
     /// The calls that make a round long enough, and its time; by the way it warms up.
