@@ -115,7 +115,8 @@ impl Sample {
     }
 }
 
-/// The header and the image by the Rust or by the subject.
+/// The header and the image by the Rust or by the subject. The Rust is not asked where the address
+/// of a child does not fit: it would cut the address, and no reader would find the child.
 fn written(
     subject: &dyn Subject,
     given: &Writing,
@@ -123,7 +124,11 @@ fn written(
     by_rust: bool,
 ) -> Option<(Vec<u8>, Vec<u8>)> {
     if by_rust && oracle::AVAILABLE {
-        return rust::serialize(given);
+        let root = plan.root_address(given.start, given.geometry);
+        let last_child = u128::from(root.saturating_sub(given.geometry.node_size.into()));
+        let bits = 8 * u32::from(given.geometry.offset_size);
+        let fits = plan.depth == 0 || last_child >> bits == 0;
+        return fits.then(|| rust::serialize(given))?;
     }
     let mut header = vec![0; header_size(given.geometry.offset_size, given.length_size)];
     let mut image = vec![0; plan.image_size as usize];
