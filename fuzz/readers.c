@@ -1,5 +1,5 @@
-/* The fuzzer's driver: each input goes through the header reader and the collector of libcapi.a and
- * through the shadow, and the two must agree in every number and every byte. */
+/* The fuzzer's driver: each input goes through the header reader, the collector and the look at a
+ * leaf of libcapi.a and through the shadow, and the two must agree in every number and every byte. */
 #include <inttypes.h>
 #include <stdio.h>
 #include <stdlib.h>
@@ -15,7 +15,7 @@ enum { CAUSES = 17 };
 /* The places that are lent to the archive: the file, the output and the answer. */
 static struct lent file_place, output_place, answer_place;
 /* How often each answer was given. */
-static uint64_t inputs, parsed[CAUSES], collected[CAUSES];
+static uint64_t inputs, parsed[CAUSES], collected[CAUSES], looked[CAUSES];
 
 static void tell(const char *call, const uint64_t counts[CAUSES]) {
     fprintf(stderr, "%s:", call);
@@ -28,6 +28,7 @@ static void tell_all(void) {
     fprintf(stderr, "agreed on %" PRIu64 " inputs, by the number of the answer\n", inputs);
     tell("header reads", parsed);
     tell("collectings", collected);
+    tell("looks at a leaf", looked);
 }
 
 int LLVMFuzzerInitialize(int *count, char ***words);
@@ -118,6 +119,23 @@ static void collect(struct source s, struct tree t, size_t length, bool at_the_e
     free(expected);
 }
 
+/* The root looked at as a leaf by both: a record below its count, at it, or one behind. */
+static void look(struct source s, struct tree t, size_t length, bool at_the_end) {
+    uint64_t due[3], index = t.total_records % (t.root_records + UINT64_C(2));
+    uint8_t *expected = exact(length);
+    uint8_t *output = lend(output_place, expected, length, at_the_end);
+    shadow_leaf_record(s, t, index, expected, length, due);
+    const uint8_t *file = lend(file_place, s.file, s.length, at_the_end);
+    uint64_t *answer = unset(3, at_the_end);
+    btree_v2_leaf_record(file, s.length, t.root_address, t.root_records, t.record_size, index,
+                         output, length, answer);
+    hold(answer, due, sizeof due, "the look");
+    hold(output, expected, length, "the output of the look");
+    hold(file, s.file, s.length, "the file, after the look");
+    looked[due[0]]++;
+    free(expected);
+}
+
 int LLVMFuzzerTestOneInput(const uint8_t *data, size_t size);
 int LLVMFuzzerTestOneInput(const uint8_t *data, size_t size) {
     if (size < AT_FILE || size - AT_FILE > LENT_MOST) return 0;
@@ -132,7 +150,9 @@ int LLVMFuzzerTestOneInput(const uint8_t *data, size_t size) {
     }
     parse((struct source){s.file, s.length, false}, data, at_the_end, header);
     size_t output = number(data + AT_OUTPUT_LENGTH, 2) % (MOST_OUTPUT + 1);
-    collect(s, given(data, header), output, at_the_end);
+    struct tree t = given(data, header);
+    collect(s, t, output, at_the_end);
+    look((struct source){s.file, s.length, false}, t, output, at_the_end);
     free(s.file);
     inputs++;
     return 0;

@@ -114,12 +114,17 @@ static bool begins(struct walk *w, uint64_t address, const char *signature) {
     return refuse(w->answer, 2, 0, 0);
 }
 
-static bool leaf(struct walk *w, uint64_t address, uint16_t count) {
+/* A leaf's tests. */
+static bool leaf_passes(struct walk *w, uint64_t address, uint16_t count) {
     if (!begins(w, address, "BTLF")) return false;
     uint64_t bytes = (uint64_t)count * w->t.record_size;
     if (!there(address + 6, bytes, w->s.length, w->answer)) return false;
     size_t end = address + 6 + bytes;
-    if (w->s.length - end >= 4 && !summed(w->s, address, end, w->answer)) return false;
+    return w->s.length - end < 4 || summed(w->s, address, end, w->answer);
+}
+
+static bool leaf(struct walk *w, uint64_t address, uint16_t count) {
+    if (!leaf_passes(w, address, count)) return false;
     w->leaves++;
     for (size_t i = 0; i < count; i++)
         if (!put(w, w->s.file + address + 6 + i * w->t.record_size)) return false;
@@ -176,4 +181,23 @@ void shadow_collect(struct source source, struct tree tree, uint8_t *output, siz
     }
     uint64_t counts[4] = {w.records, w.leaves, w.internals, w.inner};
     memcpy(answer + 3, counts, sizeof counts);
+}
+
+/* The tests of the look in their order; then the record. */
+static bool record(struct walk *w, uint64_t index, uint8_t *output, size_t output_length) {
+    size_t size = w->t.record_size;
+    if (size == 0) return refuse(w->answer, 8, 0, 0);
+    if (!leaf_passes(w, w->t.root_address, w->t.root_records)) return false;
+    if (index >= w->t.root_records) return true;
+    if (output_length < size) return refuse(w->answer, 15, output_length, 0);
+    memcpy(output, w->s.file + w->t.root_address + 6 + index * size, size);
+    w->answer[1] = size;
+    return true;
+}
+
+void shadow_leaf_record(struct source source, struct tree tree, uint64_t index, uint8_t *output,
+                        size_t output_length, uint64_t answer[3]) {
+    struct walk w = {.s = source, .t = tree, .answer = answer};
+    memset(answer, 0, 3 * sizeof *answer);
+    record(&w, index, output, output_length);
 }

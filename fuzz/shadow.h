@@ -24,10 +24,13 @@ struct tree {
 /* The number in `width` bytes, at most 8, lowest first. */
 uint64_t number(const uint8_t *bytes, size_t width);
 
-/* The answers of btree_v2_parse and btree_v2_collect. */
+/* The answers of btree_v2_parse, of btree_v2_collect, and of btree_v2_leaf_record for the root of a
+ * tree as a leaf. */
 void shadow_parse(struct source source, uint64_t offset, uint8_t offset_size, uint8_t length_size,
                   uint64_t answer[8]);
 void shadow_collect(struct source source, struct tree tree, uint8_t *output, size_t output_length,
                     uint64_t answer[7]);
+void shadow_leaf_record(struct source source, struct tree tree, uint64_t index, uint8_t *output,
+                        size_t output_length, uint64_t answer[3]);
 
 #endif

@@ -9,7 +9,7 @@ use std::time::{Duration, Instant, SystemTime, UNIX_EPOCH};
 use std::{env, thread};
 
 use differential::checksum::random_lengths;
-use differential::compare::{collect, parse, plan, table, write, Comparison, Family};
+use differential::compare::{collect, leaf, parse, plan, table, write, Comparison, Family};
 use differential::model::lookup3;
 use differential::random::Random;
 use differential::rattle::Rattle;
@@ -25,7 +25,7 @@ enum Kind {
 use Kind::{Cases, Sums};
 
 /// The parts whose cases differ from seed to seed.
-const PARTS: [(&str, Kind); 15] = [
+const PARTS: [(&str, Kind); 20] = [
     ("sums", Sums),
     ("tables", Cases(Call::NodeInfo, table::of_any_numbers)),
     ("plans", Cases(Call::Plan, plan::of_any_numbers)),
@@ -47,6 +47,14 @@ const PARTS: [(&str, Kind); 15] = [
         "large-trees",
         Cases(Call::Collect, collect::of_many_records),
     ),
+    ("leaves", Cases(Call::LeafRecord, leaf::of_any_geometry)),
+    ("cut-leaves", Cases(Call::LeafRecord, leaf::cut)),
+    ("damaged-leaves", Cases(Call::LeafRecord, leaf::damaged)),
+    (
+        "made-up-leaves",
+        Cases(Call::LeafRecord, leaf::with_made_up_numbers),
+    ),
+    ("large-leaves", Cases(Call::LeafRecord, leaf::of_many_bytes)),
 ];
 /// The inputs of the checksum from one seed.
 const SUM_INPUTS: usize = 500;
