@@ -152,7 +152,7 @@ module _ (l : List ℕ) (p x : ℕ) (known : (i : ℕ) → getD l i 0 < 256) whe
 pub fields-are : (file : List ℕ) (o ow lw a b c d e f : ℕ) → o + 18 + ow + lw ≤ length file → fieldSize ow ≡ true → fieldSize lw ≡ true → a ≡ num file (o + 6) (min 4 8)
     → b ≡ num file (o + 10) (min 2 8) → c ≡ num file (o + 12) (min 2 8) → d ≡ num file (o + 16) (min ow 8)
     → e ≡ num file (o + 16 + ow) (min 2 8) → f ≡ num file (o + 18 + ow) (min lw 8)
-    → _≡_ {A = Header} (record { kind = getD file (o + 5) 0; ns = a; rs = b; depth = c; root = d; rootRecords = e; records = f }) (headerAt file o ow lw)
+    → _≡_ {A = Header} (record { treeType = getD file (o + 5) 0; ns = a; rs = b; depth = c; root = d; rootRecords = e; records = f }) (headerAt file o ow lw)
 unfolding headerAt
 fields-are file o ow lw a b c d e f h s l ha hb hc hd he hf =
     let m : min ow 8 ≡ ow = omega (arith, field-size-le ow s) in

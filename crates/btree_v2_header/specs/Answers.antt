@@ -9,7 +9,7 @@ use Rattle.btree_v2_header.specs.declared.HeaderAnswer.the-variants as h
 abbrev pub fieldsOf : BTreeV2Header → Header
 fieldsOf h =
     record {
-      kind = h .«tree_type»;
+      treeType = h .«tree_type»;
       ns = h .«node_size»;
       rs = h .«record_size»;
       depth = h .depth;

@@ -11,7 +11,7 @@ use Rattle.btree_v2_write.specs.declared.Layout.{Layout}
 use Rattle.btree_v2_write.specs.declared.Request as own
 
 abbrev pub asked : ℕ → ℕ → ℕ → ℕ → ℕ → ℕ → ℕ → Request
-asked kind n rs ns ow lw start = record { kind = kind; n = n; rs = rs; ns = ns; ow = ow; lw = lw; start = start }
+asked treeType n rs ns ow lw start = record { treeType = treeType; n = n; rs = rs; ns = ns; ow = ow; lw = lw; start = start }
 
 -- The answer and both outputs at exit are the defined ones.
 pub record Wrote (q : Request) (recs header image : List ℕ) (answer : Answer) (headerLast imageLast : List ℕ) : Type 0 where

@@ -10,7 +10,7 @@ use Rattle.btree_v2_write.specs.declared.Layout.{Layout}
 abbrev pub formAt : Layout → Form
 formAt l =
     record {
-      kind = l .«tree_type»;
+      treeType = l .«tree_type»;
       ns = l .«node_size»;
       rs = l .«record_size»;
       ow = l .«offset_size»;

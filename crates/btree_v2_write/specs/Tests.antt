@@ -31,7 +31,7 @@ lengthAnswer image n rs ow lw start l =
 abbrev pub requestOf : Request → Asked.Request
 requestOf q =
     record {
-      kind = q .«tree_type»;
+      treeType = q .«tree_type»;
       n = q .«record_count»;
       rs = q .«record_size»;
       ns = q .«node_size»;

@@ -3,5 +3,5 @@ use Prim.Native.Nat.{ℕ}
 use Rattle.format.specs.Reading.{Header}
 
 abbrev pub given : ℕ → ℕ → ℕ → ℕ → ℕ → ℕ → ℕ → Header
-given kind ns rs depth root rootRecords records =
-    record { kind = kind; ns = ns; rs = rs; depth = depth; root = root; rootRecords = rootRecords; records = records }
+given treeType ns rs depth root rootRecords records =
+    record { treeType = treeType; ns = ns; rs = rs; depth = depth; root = root; rootRecords = rootRecords; records = records }

@@ -35,7 +35,7 @@ module _ (g : Form) (lw depth root rootRecords n : ℕ) where
       le 4 (g .ns) ++ (le 2 (g .rs) ++ (le 2 depth ++ (100 ∷ 40 ∷ (le (g .ow) root ++ (le 2 rootRecords ++ le lw n)))))
 
   abbrev unsummed : List ℕ
-  unsummed = headerSignature ++ (0 ∷ g .kind ∷ fromSize)
+  unsummed = headerSignature ++ (0 ∷ g .treeType ∷ fromSize)
 
   length-unsummed : length unsummed ≡ 18 + g .ow + lw
   length-unsummed = simp (length-append, le-length) (omega arith)
@@ -85,15 +85,15 @@ module _ (sum-fits : (xs : List ℕ) → lookup3 xs < 256 ^ 4) (file : List ℕ)
   module _ (fo : fieldSize (g .ow) ≡ true) (fl : fieldSize lw ≡ true) (ns : g .ns < 256 ^ 4) (rs : g .rs < 256 ^ 2)
       (d : depth < 256 ^ 2) (a : root < 256 ^ g .ow) (r : rootRecords < 256 ^ 2) (c : n < 256 ^ lw) where
     pub header-read : parsed file o (g .ow) lw
-        ≡ accepted (g .kind ∷ g .ns ∷ g .rs ∷ depth ∷ root ∷ rootRecords ∷ n ∷ [])
+        ≡ accepted (g .treeType ∷ g .ns ∷ g .rs ∷ depth ∷ root ∷ rootRecords ∷ n ∷ [])
     unfolding headerAt
     header-read =
         let all = length-header g lw depth root rootRecords n in
         let end = rw all at (stand-end file o _ stands (rw all (omega arith))) in
-        let signed = stand-right file o headerSignature (0 ∷ g .kind ∷ fromSize g lw depth root rootRecords n) read-unsummed in
+        let signed = stand-right file o headerSignature (0 ∷ g .treeType ∷ fromSize g lw depth root rootRecords n) read-unsummed in
         let version = byte file (o + 4) _ (o + 5) 0 signed (omega arith) in
-        let kind = byte file (o + 5) _ (o + 6) (g .kind) (version .1) (omega arith) in
-        let size = field file (o + 6) _ (o + 10) 4 (g .ns) ns (kind .1) (omega arith) in
+        let treeType = byte file (o + 5) _ (o + 6) (g .treeType) (version .1) (omega arith) in
+        let size = field file (o + 6) _ (o + 10) 4 (g .ns) ns (treeType .1) (omega arith) in
         let record-size = field file (o + 10) _ (o + 12) 2 (g .rs) rs (size .1) (omega arith) in
         let level = field file (o + 12) _ (o + 14) 2 depth d (record-size .1) (omega arith) in
         let split = byte file (o + 14) _ (o + 15) 100 (level .1) (omega arith) in
@@ -102,7 +102,7 @@ module _ (sum-fits : (xs : List ℕ) → lookup3 xs < 256 ^ 4) (file : List ℕ)
         let count = field file (o + 16 + g .ow) _ (o + 18 + g .ow) 2 rootRecords r (address .1) (omega arith) in
         let total = stand-num file (o + 18 + g .ow) lw n (count .1) c in
         parsed-passed file o (g .ow) lw end (stand-left file o headerSignature _ read-unsummed) (version .0) fo fl (read-checksum _)
-        ∙ rw (kind .0, size .0, record-size .0, level .0, address .0, count .0, total)
+        ∙ rw (treeType .0, size .0, record-size .0, level .0, address .0, count .0, total)
 
 -- What a write that was accepted put into the header.
 module _ (q : Request) (recs : List ℕ) (a : Accepts q recs) where

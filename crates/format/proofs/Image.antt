@@ -47,15 +47,15 @@ module _ (g : Form) (start : ℕ) (recs file : List ℕ) where
     ends : a + 10 + length rest ≤ length file
 
   node-stands : (signature rest : List ℕ) (a : ℕ) → length signature ≡ 4
-      → Stand file a (summed (signature ++ (0 ∷ g .kind ∷ rest))) → NodeStands signature rest a
+      → Stand file a (summed (signature ++ (0 ∷ g .treeType ∷ rest))) → NodeStands signature rest a
   unfolding summed
   node-stands signature rest a four h =
-      let b = signature ++ (0 ∷ g .kind ∷ rest) in
+      let b = signature ++ (0 ∷ g .treeType ∷ rest) in
       let e : length (b ++ le 4 (lookup3 b)) ≡ 10 + length rest = simp (length-append, le-length, four) (omega arith) in
-      let s = stand-split file a signature (0 ∷ g .kind ∷ rest) (a + 4) (rw four) (stand-left file a b (le 4 (lookup3 b)) h) in
+      let s = stand-split file a signature (0 ∷ g .treeType ∷ rest) (a + 4) (rw four) (stand-left file a b (le 4 (lookup3 b)) h) in
       record {
         begins = rw four at (s .0);
-        goes-on = stand-split file (a + 4) (0 ∷ g .kind ∷ []) rest (a + 6) (omega arith) (s .1) .1;
+        goes-on = stand-split file (a + 4) (0 ∷ g .treeType ∷ []) rest (a + 6) (omega arith) (s .1) .1;
         ends = omega (arith, stand-end file a (b ++ le 4 (lookup3 b)) h (omega arith));
       }
 

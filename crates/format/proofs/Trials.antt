@@ -73,12 +73,12 @@ collecting file h ow n answer k =
     record { found = runCells r ++ runOutput r; due = answer ++ (ramp k ++ lent (n - k)) }
 
 request : ℕ → ℕ → ℕ → ℕ → ℕ → ℕ → ℕ → Request
-request kind n rs ns ow lw start =
-    record { kind = kind; n = n; rs = rs; ns = ns; ow = ow; lw = lw; start = start }
+request treeType n rs ns ow lw start =
+    record { treeType = treeType; n = n; rs = rs; ns = ns; ow = ow; lw = lw; start = start }
 
 header : ℕ → ℕ → ℕ → ℕ → ℕ → ℕ → Header
 header ns rs depth root rootRecords records =
-    record { kind = 6; ns = ns; rs = rs; depth = depth; root = root; rootRecords = rootRecords; records = records }
+    record { treeType = 6; ns = ns; rs = rs; depth = depth; root = root; rootRecords = rootRecords; records = records }
 
 -- What the Rust wrote: 40/8/8 with 3 records; 40/8/2 with 4; 40/8/8 with 8, to stand behind 7 bytes and the header; 26/8/4 with 2; 10/8/8
 -- with none.

@@ -20,7 +20,7 @@ internalSignature = 66 ∷ 84 ∷ 73 ∷ 78 ∷ []
 -- What all nodes of a tree share: tree type, node size, record size, offset size, the width of a record count, and the width of the total
 -- of a subtree by the level of its root.
 pub record Form : Type 0 where
-  pub kind : ℕ
+  pub treeType : ℕ
   pub ns : ℕ
   pub rs : ℕ
   pub ow : ℕ
@@ -51,7 +51,7 @@ module _ (g : Form) (start : ℕ) (recs : List ℕ) where
 
   -- A leaf of n records, the first of them record r.
   unfoldable pub leafBytes : ℕ → ℕ → List ℕ
-  leafBytes n r = leafSignature ++ (0 ∷ g .kind ∷ rows r n)
+  leafBytes n r = leafSignature ++ (0 ∷ g .treeType ∷ rows r n)
 
   -- The pointer to a subtree of depth d whose first node is node j.
   unfoldable pub pointer : (d : ℕ) → Tree d → ℕ → List ℕ
@@ -69,7 +69,7 @@ module _ (g : Form) (start : ℕ) (recs : List ℕ) where
 
   -- An internal node whose children have depth d; its first node below is node j, its first record below record r.
   unfoldable pub internalBytes : (d : ℕ) → Kids (Tree d) → ℕ → ℕ → List ℕ
-  internalBytes d ts j r = internalSignature ++ (0 ∷ g .kind ∷ (ownRows d ts r ++ pointers d ts j))
+  internalBytes d ts j r = internalSignature ++ (0 ∷ g .treeType ∷ (ownRows d ts r ++ pointers d ts j))
 
   -- The nodes of the children, one child after another, each made by f.
   unfoldable pub kidsImage : (d : ℕ) → (Tree d → ℕ → ℕ → List ℕ) → Kids (Tree d) → ℕ → ℕ → List ℕ
@@ -87,7 +87,7 @@ headerBytes g lw depth root rootRecords n =
     summed
     (headerSignature
     ++ (0
-    ∷ g .kind
+    ∷ g .treeType
     ∷ (le 4 (g .ns)
     ++ (le 2 (g .rs)
     ++ (le 2 depth ++ (100 ∷ 40 ∷ (le (g .ow) root ++ (le 2 rootRecords ++ le lw n))))))))

@@ -20,7 +20,7 @@ same (x ∷ xs) (y ∷ ys) = eqb x y && same xs ys
 
 -- The header reader's answer.
 pub record Header : Type 0 where
-  pub kind : ℕ
+  pub treeType : ℕ
   pub ns : ℕ
   pub rs : ℕ
   pub depth : ℕ
@@ -30,7 +30,7 @@ pub record Header : Type 0 where
 
 abbrev pub headerFigures : Header → List ℕ
 headerFigures h =
-    h .kind ∷ h .ns ∷ h .rs ∷ h .depth ∷ h .root ∷ h .rootRecords ∷ h .records ∷ []
+    h .treeType ∷ h .ns ∷ h .rs ∷ h .depth ∷ h .root ∷ h .rootRecords ∷ h .records ∷ []
 
 -- Refusal 6 where the four bytes at `end` are not the checksum of those from `from` to there.
 unfoldable pub checksumTest : List ℕ → ℕ → ℕ → Answer → Answer
@@ -43,7 +43,7 @@ module _ (file : List ℕ) (o ow lw : ℕ) where
   unfoldable pub headerAt : Header
   headerAt =
       record {
-        kind = num file (o + 5) 1;
+        treeType = num file (o + 5) 1;
         ns = num file (o + 6) 4;
         rs = num file (o + 10) 2;
         depth = num file (o + 12) 2;

@@ -22,7 +22,7 @@ pub record Stands (q : Request) (recs file : List ℕ) (o : ℕ) : Type 0 where
 unfoldable pub headerWritten : Request → Header
 headerWritten q =
     record {
-      kind = q .kind;
+      treeType = q .treeType;
       ns = q .ns;
       rs = q .rs;
       depth = depthOf q;

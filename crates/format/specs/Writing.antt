@@ -26,7 +26,7 @@ over b o = b ++ drop (length b) o
 
 -- The numbers that the call is given.
 pub record Request : Type 0 where
-  pub kind : ℕ
+  pub treeType : ℕ
   pub n : ℕ
   pub rs : ℕ
   pub ns : ℕ
@@ -38,7 +38,7 @@ pub record Request : Type 0 where
 unfoldable pub formOf : Request → Form
 formOf q =
     record {
-      kind = q .kind;
+      treeType = q .treeType;
       ns = q .ns;
       rs = q .rs;
       ow = q .ow;

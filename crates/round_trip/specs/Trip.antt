@@ -31,7 +31,7 @@ pub record Lent : Type 0 where
 abbrev pub headerFrom : List ℕ → Header
 headerFrom figures =
     record {
-      kind = getD figures 0 0;
+      treeType = getD figures 0 0;
       ns = getD figures 1 0;
       rs = getD figures 2 0;
       depth = getD figures 3 0;
@@ -59,7 +59,7 @@ pub record Holds (q : Request) (file : List ℕ) (place : ℕ) (headerLast image
 -- are the plan's nodes, at most N.
 pub record Complete (q : Request) (recs out : List ℕ) (r : RoundTrip) (outputLast : List ℕ) : Type 0 where
   pub header : headerAnswerOf (r .header)
-      ≡ accepted (q .kind ∷ q .ns ∷ q .rs ∷ depthOf q ∷ rootOf q ∷ rootRecordsOf q ∷ q .n ∷ [])
+      ≡ accepted (q .treeType ∷ q .ns ∷ q .rs ∷ depthOf q ∷ rootOf q ∷ rootRecordsOf q ∷ q .n ∷ [])
   pub collected : verdictOf (r .collected .verdict) ≡ accepted []
   pub output : outputLast ≡ recs ++ drop (q .n * q .rs) out
   pub count : r .collected .tally .records ≡ q .n
