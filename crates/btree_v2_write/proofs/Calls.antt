@@ -31,10 +31,10 @@ use Rattle.format.proofs.Fronts.{header-left, image-left}
 use Rattle.format.proofs.Outcomes.{over-stored, header-put, image-put}
 use Rattle.btree_v2_write.specs.declared.Layout.{Layout}
 use Rattle.btree_v2_write.specs.declared.Child.{Child}
-use Rattle.btree_v2_write.specs.declared.Request as own
+use Rattle.write_request.specs.declared.Request as own
 use Rattle.btree_v2_write.specs.Layouts.{formAt}
 use Rattle.btree_v2_write.specs.Subtrees.{subtreeNodes, subtreeImage, Made, Whole}
-use Rattle.btree_v2_write.specs.Tests.{requestOf, Checked}
+use Rattle.write_request.specs.Tests.{requestOf, Checked}
 use Rattle.btree_v2_write.specs.Call.{layoutOf, Accepted, Wrote}
 use Rattle.btree_v2_write.proofs.Subtrees.{root-records}
 

@@ -3,7 +3,5 @@ pub mod Nodes
 pub mod Internal
 pub mod Planned
 pub mod Subtrees
-pub mod Testing
 pub mod Headers
-pub mod Checking
 pub mod Calls

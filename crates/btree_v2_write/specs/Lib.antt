@@ -2,5 +2,4 @@
 pub mod Layouts
 pub mod Shares
 pub mod Subtrees
-pub mod Tests
 pub mod Call

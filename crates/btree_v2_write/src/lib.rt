@@ -14,16 +14,14 @@ ghost use Rattle.btree_v2_write.specs.Layouts.{formAt, fixedBytes};
 ghost use Rattle.btree_v2_write.specs.Subtrees.{Ready, Made, Whole, subtreeNodes, subtreeImage};
 ghost use Rattle.format.specs.Writing.{headerExit, imageExit};
 ghost use Rattle.btree_v2_write.specs.Call.{asked, layoutOf, Accepted, Wrote};
-ghost use Rattle.btree_v2_write.specs.Tests.{testedAnswer, lengthAnswer, requestOf, Checked};
-ghost use Rattle.refusal.specs.Answer.{refusalOf};
-ghost use Rattle.node_info.specs.Table.{noInfo};
+ghost use Rattle.write_request.specs.Tests.{requestOf};
 ghost use Rattle.plan.specs.Planned.{planAnswerOf};
 ghost use Rattle.btree_v2_write.specs.Shares.{twoSizes, withOne, rowsAfter, pointerSize, pointerTo, pointersTo, nodesOfAll, InnerFits, innerBytes};
 use node_info::NodeInfo;
 use plan::BTreeV2Plan;
-use plan::PlanAndTable;
 use plan::PlanAnswer;
-use refusal::Refusal;
+use write_request::Lengths;
+use write_request::Request;
 
 // When a node is split and merged, in percent of its capacity; written into the header alone.
 const SPLIT_PERCENT: u64 = 100;
@@ -337,123 +335,6 @@ fn write_subtree(
     next + 1
 }
 
-// The largest number that a field of 2, 4 or 8 bytes holds.
-fn largest(size: u8) -> u64
-    requires { ⌜ fieldSize size ≡ true ⌝ }
-    ensures { λ r. ⌜ r ≡ 2 ^ (8 * size) - 1 ⌝ }
-{
-    if size == 2 {
-        return 0xffff;
-    }
-    if size == 4 {
-        return 0xffff_ffff;
-    }
-    u64::MAX
-}
-
-// The lengths of the lent buffers.
-pub struct Lengths {
-    pub records: u64,
-    pub header: u64,
-    pub image: u64,
-}
-
-// Whether something is refused.
-enum Tested {
-    Passed,
-    Refused(Refusal),
-}
-
-// Refusals 12 to 15, where a plan is accepted.
-fn test_lengths(
-    plan: BTreeV2Plan,
-    record_count: u64,
-    record_size: u16,
-    offset_size: u8,
-    length_size: u8,
-    start: u64,
-    lengths: Lengths,
-) -> Tested
-    requires { ⌜ (fieldSize «offset_size» ≡ true) × (fieldSize «length_size» ≡ true) × («record_count» < 2 ^ 24) ⌝ }
-    ensures { λ r. ⌜ testedAnswer r ≡ lengthAnswer (plan .«image_size») «record_count» «record_size» «offset_size» «length_size» start lengths ⌝ }
-{
-    if lengths.records != record_count * (record_size as u64) {
-        return Tested::Refused(Refusal::RecordBufferLength(lengths.records));
-    }
-    if largest(length_size) < record_count {
-        return Tested::Refused(Refusal::CountAboveLengthSize(record_count));
-    }
-    let most = largest(offset_size);
-    if most < plan.image_size {
-        return Tested::Refused(Refusal::AddressAboveOffsetSize(start));
-    }
-    if most - plan.image_size < start {
-        return Tested::Refused(Refusal::AddressAboveOffsetSize(start));
-    }
-    if lengths.header < 22 + (offset_size as u64) + (length_size as u64) {
-        return Tested::Refused(Refusal::OutputTooShort(lengths.header));
-    }
-    if lengths.image < plan.image_size {
-        return Tested::Refused(Refusal::OutputTooShort(lengths.image));
-    }
-    Tested::Passed
-}
-
-// The numbers that the writing call is given.
-pub struct Request {
-    pub tree_type: u8,
-    pub record_count: u64,
-    pub record_size: u16,
-    pub node_size: u32,
-    pub offset_size: u8,
-    pub length_size: u8,
-    pub start: u64,
-}
-
-// A refusal, with no table.
-fn refuse(cause: Refusal) -> PlanAndTable
-    ensures { λ r. ⌜ (planAnswerOf (r .answer) ≡ refusalOf cause) × (r .info ≡ noInfo) ⌝ }
-{
-    PlanAndTable {
-        answer: PlanAnswer::Refused(cause),
-        info: NodeInfo::none(),
-    }
-}
-
-// Every refusal of the call, decided from its numbers and the lengths of the lent buffers; accepted, the plan and its table.
-fn check(request: Request, lengths: Lengths) -> PlanAndTable
-    ensures { λ r. ⌜ Checked (requestOf request) lengths (planAnswerOf (r .answer)) (r .info) ⌝ }
-{
-    let record_count = request.record_count;
-    let record_size = request.record_size;
-    let offset_size = request.offset_size;
-    let length_size = request.length_size;
-    if !fields::is_field_size(offset_size) {
-        return refuse(Refusal::InvalidOffsetSize(offset_size));
-    }
-    if !fields::is_field_size(length_size) {
-        return refuse(Refusal::InvalidLengthSize(length_size));
-    }
-    let laid = plan::lay_out(record_count, record_size, request.node_size, offset_size);
-    let answer = laid.answer;
-    let PlanAnswer::Planned(plan) = answer else {
-        return laid;
-    };
-    let tested = test_lengths(
-        plan,
-        record_count,
-        record_size,
-        offset_size,
-        length_size,
-        request.start,
-        lengths,
-    );
-    match tested {
-        Tested::Passed => laid,
-        Tested::Refused(cause) => refuse(cause),
-    }
-}
-
 // Puts the header's first sixteen bytes, to the merge percent.
 fn put_fixed(header: &mut [u8], layout: Layout, depth: u64)
     requires { ⌜ 16 ≤ length (now header) ⌝ }
@@ -573,7 +454,7 @@ pub fn write(
         header: header.len() as u64,
         image: image.len() as u64,
     };
-    let checked = check(request, lengths);
+    let checked = write_request::check(request, lengths);
     let answer = checked.answer;
     let PlanAnswer::Planned(plan) = answer else {
         return answer;

@@ -1,9 +1,9 @@
 -- By the ways out, in order.
-use Rattle.btree_v2_write.proofs.Checking.{checked-4, checked-5, offset-passed, length-passed, records-few, checked-plan, checked-passed, checked-lengths}
-use Rattle.btree_v2_write.specs.Tests.{requestOf}
+use Rattle.write_request.proofs.Checking.{checked-4, checked-5, offset-passed, length-passed, records-few, checked-plan, checked-passed, checked-lengths}
+use Rattle.write_request.specs.Tests.{requestOf}
 use borrow.Author.Needs.{needs}
-use Rattle.btree_v2_write.proofs.check.Statement.{statement}
-use Rattle.btree_v2_write.proofs.check.Tie as tie
+use Rattle.write_request.proofs.check.Statement.{statement}
+use Rattle.write_request.proofs.check.Tie as tie
 
 pub check-spec : {M : Type 1} → statement M
 check-spec =

@@ -1,7 +1,7 @@
 -- By the three sizes.
-use Rattle.btree_v2_write.proofs.Testing.{largest-2, largest-4, largest-8}
-use Rattle.btree_v2_write.proofs.largest.Statement.{statement}
-use Rattle.btree_v2_write.proofs.largest.Tie as tie
+use Rattle.write_request.proofs.Testing.{largest-2, largest-4, largest-8}
+use Rattle.write_request.proofs.largest.Statement.{statement}
+use Rattle.write_request.proofs.largest.Tie as tie
 
 pub largest-spec : {M : Type 1} → statement M
 largest-spec =

@@ -1,8 +1,8 @@
 -- By the ways out, in order.
-use Rattle.btree_v2_write.proofs.Testing.{bytes-fit, lengths-12, lengths-13, lengths-14-image, lengths-14-start, lengths-15-header, lengths-15-image, lengths-passed}
+use Rattle.write_request.proofs.Testing.{bytes-fit, lengths-12, lengths-13, lengths-14-image, lengths-14-start, lengths-15-header, lengths-15-image, lengths-passed}
 use borrow.Author.Needs.{needs}
-use Rattle.btree_v2_write.proofs.test_lengths.Statement.{statement}
-use Rattle.btree_v2_write.proofs.test_lengths.Tie as tie
+use Rattle.write_request.proofs.test_lengths.Statement.{statement}
+use Rattle.write_request.proofs.test_lengths.Tie as tie
 
 pub test-lengths-spec : {M : Type 1} → statement M
 test-lengths-spec =

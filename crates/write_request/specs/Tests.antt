@@ -9,10 +9,10 @@ use Rattle.node_info.specs.Table.{infoAt}
 use Rattle.plan.specs.Planned.{tableIf}
 use Rattle.format.specs.Writing as Asked
 use Rattle.format.specs.Writing.{depthOf, writeAnswer}
-use Rattle.btree_v2_write.specs.declared.Request.{Request}
-use Rattle.btree_v2_write.specs.declared.Lengths.{Lengths}
-use Rattle.btree_v2_write.specs.declared.Tested.{Tested}
-use Rattle.btree_v2_write.specs.declared.Tested.the-variants.{Passed, Refused}
+use Rattle.write_request.specs.declared.Request.{Request}
+use Rattle.write_request.specs.declared.Lengths.{Lengths}
+use Rattle.write_request.specs.declared.Tested.{Tested}
+use Rattle.write_request.specs.declared.Tested.the-variants.{Passed, Refused}
 
 abbrev pub testedAnswer : Tested → Answer
 testedAnswer Passed = accepted []

@@ -18,10 +18,10 @@ use Rattle.plan.specs.declared.PlanAnswer.the-variants as plan-answer
 use Rattle.plan.specs.Planned.{planFigures, planChecks, planAnswerOf, tableIf}
 use Rattle.plan.proofs.Checks.{Plannable, accepted-plannable}
 use Rattle.format.specs.Writing.{Request, depthOf, nodesOf, writeAnswer}
-use Rattle.btree_v2_write.specs.declared.Lengths.{Lengths}
-use Rattle.btree_v2_write.specs.declared.Tested.{Tested}
-use Rattle.btree_v2_write.specs.declared.Tested.the-variants as tested
-use Rattle.btree_v2_write.specs.Tests.{testedAnswer, lengthAnswer, Checked}
+use Rattle.write_request.specs.declared.Lengths.{Lengths}
+use Rattle.write_request.specs.declared.Tested.{Tested}
+use Rattle.write_request.specs.declared.Tested.the-variants as tested
+use Rattle.write_request.specs.Tests.{testedAnswer, lengthAnswer, Checked}
 
 -- Two chains of the same tests, the one ending in nothing, the other in `last`.
 pub record Alike (last x y : Answer) : Type 0 where

@@ -11,8 +11,8 @@ use lib.Dec.{leb}
 use borrow.Author.Tests.{le-leb, lt-leb, eq-eqb, ne-eqb, eqb-true}
 use Rattle.fields.specs.Numbers.{fieldSize}
 use Rattle.refusal.specs.Answer.{Answer, accepted, refused, orElse}
-use Rattle.btree_v2_write.specs.declared.Lengths.{Lengths}
-use Rattle.btree_v2_write.specs.Tests.{lengthAnswer}
+use Rattle.write_request.specs.declared.Lengths.{Lengths}
+use Rattle.write_request.specs.Tests.{lengthAnswer}
 
 -- `largest`
 pub largest-2 : (s : ℕ) → s ≡ 2 → 0xffff ≡ 2 ^ (8 * s) - 1

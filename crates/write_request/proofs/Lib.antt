@@ -1,0 +1,3 @@
+-- The laws behind the functions' proofs.
+mod Testing
+mod Checking
