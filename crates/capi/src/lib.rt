@@ -11,11 +11,10 @@ ghost use Rattle.format.specs.Look.{recordAnswer, recordExit};
 ghost use Rattle.btree_v2_write.specs.Call.{asked};
 ghost use Rattle.capi.specs.Given.{given};
 use btree_v2_header::BTreeV2Header;
+use checks::Verdict;
 use node_info::NodeInfo;
 use plan::BTreeV2Plan;
 use refusal::Refusal;
-
-mod answers;
 
 // The capacity table up to a depth: width of a record count, and for the levels 0 to 32 the records of a node, then those of a subtree,
 // then the width of a subtree's total.
@@ -152,7 +151,8 @@ pub extern "C" fn btree_v2_leaf_record(
         return;
     }
     if output.len() < length {
-        answers::put_refusal(answer, Refusal::OutputTooShort(output.len() as u64));
+        let short = Refusal::OutputTooShort(output.len() as u64);
+        answers::put_verdict(answer, Verdict::Refused(short));
         return;
     }
     fields::put_bytes(output, 0, record);

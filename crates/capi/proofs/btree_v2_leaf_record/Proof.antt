@@ -1,7 +1,5 @@
 -- `btree_v2_leaf_record` copies the record that is handed out, or says why there is none.
-use Rattle.capi.proofs.Putting.{put-is}
 use Rattle.capi.proofs.Records.{leaf-none, leaf-short, leaf-copied}
-use mathlib.Core.Path.{refl}
 use borrow.Author.Needs.{needs}
 use Rattle.capi.proofs.btree_v2_leaf_record.Statement.{statement}
 use Rattle.capi.proofs.btree_v2_leaf_record.Tie as tie
@@ -15,7 +13,7 @@ btree-v2-leaf-record-spec =
     (λ c κs. search needs)
     (λ c. leaf-none _ _ _ _ _ _ _ (c .before .before .before .before .leaf-record .ensures) (c .before .before .before .if1 .taken) (c .before .before .check-view .result) (c .before .before .check-view .ensures) _ (c .put-verdict .ensures))
     (λ c κs. search needs)
-    (λ c. leaf-short _ _ _ _ _ _ _ (c .before .before .before .before .leaf-record .ensures) (c .before .before .before .if1 .left) (c .before .before .if2 .taken) _ (put-is refl (c .before .put-refusal-arg .given .0 .1) (c .put-refusal .ensures)))
+    (λ c. leaf-short _ _ _ _ _ _ _ (c .before .before .before .before .leaf-record .ensures) (c .before .before .before .if1 .left) (c .before .before .if2 .taken) _ (c .put-verdict2 .ensures))
     (λ c κs. search needs)
     (λ c. search needs)
     (λ c. leaf-copied _ _ _ _ _ _ _ (c .before .before .before .before .before .before .before .leaf-record .ensures) (c .before .before .before .before .before .before .if1 .left) (c .before .before .before .before .before .if2 .left) _ (c .before .before .before .put-bytes .ensures)))

@@ -1,0 +1,168 @@
+// How an answer is put into a C caller's array: the refusal's number, 0 where the call is accepted, then the figures or the refusal's
+// values, then zeros.
+
+ghost use mathlib.Core.Path.{_≡_};
+ghost use Prim.Native.Nat.{_+_, _≤_};
+ghost use lib.ListN.{length, replicate};
+ghost use Rattle.fields.specs.Places.{stored};
+ghost use Rattle.refusal.specs.Answer.{refusalOf, cells};
+ghost use Rattle.node_info.specs.Table.{tableAnswer};
+ghost use Rattle.plan.specs.Planned.{planAnswerOf};
+ghost use Rattle.checks.specs.Verdicts.{verdictOf};
+ghost use Rattle.btree_v2_header.specs.Answers.{headerAnswerOf};
+ghost use Rattle.btree_v2.specs.Answers.{collectedCells};
+use btree_v2::Collected;
+use btree_v2_header::HeaderAnswer;
+use node_info::NodeInfoAnswer;
+use node_info::Verdict;
+use plan::PlanAnswer;
+use refusal::Refusal;
+
+// Zeros.
+fn clear(numbers: &mut [u64])
+    ensures { λ _. ⌜ now (numbers .exit) ≡ replicate (length (now (numbers .entry))) 0 ⌝ }
+{
+    let mut at = 0;
+    while at < numbers.len() {
+        numbers[at] = 0;
+        at += 1;
+    }
+}
+
+// A refusal's number and values, and zeros.
+fn put_refusal(answer: &mut [u64], cause: Refusal)
+    requires { ⌜ 3 ≤ length (now answer) ⌝ }
+    ensures { λ _. ⌜ now (answer .exit) ≡ cells (length (now (answer .entry))) (refusalOf cause) ⌝ }
+{
+    let told = cause.told();
+    answer[0] = told.number;
+    answer[1] = told.first;
+    answer[2] = told.second;
+    clear(&mut answer[3..]);
+}
+
+// A column of capacities, from `at` on.
+fn put_column(answer: &mut [u64], at: usize, column: &[u64])
+    requires { ⌜ at + length (now column) ≤ length (now answer) ⌝ }
+    ensures { λ _. ⌜ now (answer .exit) ≡ stored (now (answer .entry)) at (now (column .entry)) ⌝ }
+{
+    let mut i = 0;
+    while i < column.len() {
+        answer[at + i] = column[i];
+        i += 1;
+    }
+}
+
+// A column of widths, from `at` on.
+fn put_widths(answer: &mut [u64], at: usize, widths: &[u8])
+    requires { ⌜ at + length (now widths) ≤ length (now answer) ⌝ }
+    ensures { λ _. ⌜ now (answer .exit) ≡ stored (now (answer .entry)) at (now (widths .entry)) ⌝ }
+{
+    let mut level = 0;
+    while level < widths.len() {
+        answer[at + level] = widths[level] as u64;
+        level += 1;
+    }
+}
+
+// The capacity table.
+pub fn put_node_info(answer: &mut [u64; 101], computed: NodeInfoAnswer)
+    ensures { λ _. ⌜ now (answer .exit) ≡ cells 101 (tableAnswer (computed .verdict) (computed .info)) ⌝ }
+{
+    let verdict = computed.verdict;
+    match verdict {
+        Verdict::Accepted => {
+            let info = computed.info;
+            answer[0] = 0;
+            answer[1] = info.max_nrec_size as u64;
+            put_column(answer, 2, &info.max_nrec);
+            put_column(answer, 35, &info.cum_max_nrec);
+            put_widths(answer, 68, &info.cum_max_nrec_size);
+        }
+        Verdict::Refused(cause) => put_refusal(answer, cause),
+    }
+}
+
+// The plan's figures, which are those of a write too.
+pub fn put_plan(answer: &mut [u64; 5], planned: PlanAnswer)
+    ensures { λ _. ⌜ now (answer .exit) ≡ cells 5 (planAnswerOf planned) ⌝ }
+{
+    match planned {
+        PlanAnswer::Planned(plan) => {
+            *answer = [
+                0,
+                plan.depth as u64,
+                plan.nodes,
+                plan.leaves,
+                plan.image_size,
+            ];
+        }
+        PlanAnswer::Refused(cause) => put_refusal(answer, cause),
+    }
+}
+
+// The header's fields.
+pub fn put_header(answer: &mut [u64; 8], parsed: HeaderAnswer)
+    ensures { λ _. ⌜ now (answer .exit) ≡ cells 8 (headerAnswerOf parsed) ⌝ }
+{
+    match parsed {
+        HeaderAnswer::Parsed(header) => {
+            *answer = [
+                0,
+                header.tree_type as u64,
+                header.node_size as u64,
+                header.record_size as u64,
+                header.depth as u64,
+                header.root_node_address,
+                header.num_records_in_root as u64,
+                header.total_records,
+            ];
+        }
+        HeaderAnswer::Refused(cause) => put_refusal(answer, cause),
+    }
+}
+
+// The refusal's number and values, zeros where the run is accepted, and the counts of both.
+pub fn put_collected(answer: &mut [u64; 7], collected: Collected)
+    ensures { λ _. ⌜ now (answer .exit) ≡ collectedCells collected ⌝ }
+{
+    let verdict = collected.verdict;
+    let tally = collected.tally;
+    match verdict {
+        checks::Verdict::Accepted => {
+            *answer = [
+                0,
+                0,
+                0,
+                tally.records,
+                tally.leaves,
+                tally.internals,
+                tally.inner,
+            ];
+        }
+        checks::Verdict::Refused(cause) => {
+            let told = cause.told();
+            *answer = [
+                told.number,
+                told.first,
+                told.second,
+                tally.records,
+                tally.leaves,
+                tally.internals,
+                tally.inner,
+            ];
+        }
+    }
+}
+
+// The refusal's number and values, zeros where there is none.
+pub fn put_verdict(answer: &mut [u64; 3], verdict: checks::Verdict)
+    ensures { λ _. ⌜ now (answer .exit) ≡ cells 3 (verdictOf verdict) ⌝ }
+{
+    match verdict {
+        checks::Verdict::Accepted => {
+            *answer = [0, 0, 0];
+        }
+        checks::Verdict::Refused(cause) => put_refusal(answer, cause),
+    }
+}
