@@ -13,17 +13,16 @@ use Rattle.fields.specs.Numbers.{part, num, fieldSize}
 use Rattle.fields.proofs.Lists.{length-part}
 use Rattle.fields.proofs.Numbers.{field-size-le}
 use Rattle.refusal.specs.declared.Refusal.{Refusal}
-use Rattle.refusal.specs.Answer.{accepted, refused}
+use Rattle.refusal.specs.Answer.{accepted, refused, verdictOf}
 use Rattle.node_info.proofs.Capacities.{count-width-le}
 use Rattle.format.specs.Bytes.{internalSignature}
 use Rattle.format.specs.Walk.{needs, pointerWidth, pointerPlace, childAddress, childRecords}
 use Rattle.format.specs.Reading.{same, internalTest}
 use Rattle.format.proofs.Passing.{passed, there}
-use Rattle.checks.specs.declared.Verdict.{Verdict}
-use Rattle.checks.specs.declared.Verdict.the-variants.{Accepted, Refused}
+use Rattle.refusal.specs.declared.Verdict.{Verdict}
+use Rattle.refusal.specs.declared.Verdict.the-variants.{Accepted, Refused}
 use Rattle.btree_v2.specs.declared.collect.Sizes.{Sizes}
 use Rattle.btree_v2.specs.declared.collect.Node.{Node}
-use Rattle.checks.specs.Verdicts.{verdictOf}
 use Rattle.btree_v2.specs.Collecting.{sourceAt, Readable}
 use Rattle.btree_v2_leaf.proofs.Leaves.{front-there}
 use Rattle.checks.proofs.Checks.{bytes-there, bytes-missing, test-holds, test-fails}

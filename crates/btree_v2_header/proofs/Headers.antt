@@ -12,13 +12,12 @@ use Rattle.fields.specs.Numbers.{part, num, unle, fieldSize}
 use Rattle.fields.proofs.Lists.{part-cons}
 use Rattle.fields.proofs.Numbers.{num-add, field-size-le}
 use Rattle.refusal.specs.declared.Refusal.{Refusal}
-use Rattle.refusal.specs.Answer.{Answer, accepted, refused, refusalOf, orElse}
+use Rattle.refusal.specs.Answer.{Answer, accepted, refused, refusalOf, orElse, verdictOf}
 use Rattle.format.specs.Bytes.{headerSignature}
 use Rattle.format.specs.Walk.{needs}
 use Rattle.format.specs.Reading.{same, Header, headerFigures, headerAt, checksumTest, parsed}
-use Rattle.checks.specs.declared.Verdict.{Verdict}
-use Rattle.checks.specs.declared.Verdict.the-variants.{Accepted, Refused}
-use Rattle.checks.specs.Verdicts.{verdictOf}
+use Rattle.refusal.specs.declared.Verdict.{Verdict}
+use Rattle.refusal.specs.declared.Verdict.the-variants.{Accepted, Refused}
 use Rattle.btree_v2_header.specs.Parsing.{Begun}
 use Rattle.checks.proofs.Checks.{bytes-missing, sum-right, sum-wrong}
 

@@ -8,8 +8,8 @@ ghost use Rattle.fields.specs.Numbers.{num, fieldSize};
 ghost use Rattle.format.specs.Reading.{headerAt, parsed};
 ghost use Rattle.btree_v2_header.specs.Answers.{fieldsOf, headerAnswerOf};
 ghost use Rattle.btree_v2_header.specs.Parsing.{Begun};
-use checks::Verdict;
 use refusal::Refusal;
+use refusal::Verdict;
 
 // The header, as it stands in a file.
 pub struct BTreeV2Header {
