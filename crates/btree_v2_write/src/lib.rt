@@ -1,67 +1,25 @@
 // The writing call: a header and the nodes of a version 2 B-tree, put into two lent buffers.
 
 ghost use mathlib.Core.Path.{_≡_};
-ghost use mathlib.Core.List.{List, [], _∷_, _++_};
-ghost use Prim.Native.Nat.{ℕ, _+_, _-_, _*_, _^_, _≤_, _<_};
-ghost use lib.ListN.{length, getD, take, replicate};
-ghost use Rattle.checksum.specs.Lookup3.{lookup3};
+ghost use Prim.Native.Nat.{_+_, _-_, _*_, _^_, _≤_, _<_};
+ghost use lib.ListN.{length, getD};
 ghost use lib.Dec.{ltb};
-ghost use mathlib.Core.Bool.{true};
-ghost use Rattle.fields.specs.Numbers.{pick, le, part, fieldSize};
+ghost use Rattle.fields.specs.Numbers.{pick, le, part};
 ghost use Rattle.fields.specs.Places.{stored};
-ghost use Rattle.format.specs.Bytes.{padded, leafBytes, address, headerBytes};
-ghost use Rattle.btree_v2_write.specs.Layouts.{formAt, fixedBytes};
+ghost use Rattle.format.specs.Bytes.{padded, leafBytes};
+ghost use Rattle.frame.specs.Layouts.{formAt};
 ghost use Rattle.btree_v2_write.specs.Subtrees.{Ready, Made, Whole, subtreeNodes, subtreeImage};
 ghost use Rattle.format.specs.Writing.{headerExit, imageExit};
 ghost use Rattle.btree_v2_write.specs.Call.{asked, layoutOf, Accepted, Wrote};
 ghost use Rattle.write_request.specs.Tests.{requestOf};
 ghost use Rattle.plan.specs.Planned.{planAnswerOf};
 ghost use Rattle.btree_v2_write.specs.Shares.{twoSizes, withOne, rowsAfter, pointerSize, pointerTo, pointersTo, nodesOfAll, InnerFits, innerBytes};
+use frame::Layout;
 use node_info::NodeInfo;
 use plan::BTreeV2Plan;
 use plan::PlanAnswer;
 use write_request::Lengths;
 use write_request::Request;
-
-// When a node is split and merged, in percent of its capacity; written into the header alone.
-const SPLIT_PERCENT: u64 = 100;
-
-const MERGE_PERCENT: u64 = 40;
-
-// What all nodes of a tree share: sizes in bytes, and the address of the first node.
-pub struct Layout {
-    pub tree_type: u8,
-    pub node_size: usize,
-    pub record_size: usize,
-    pub offset_size: usize,
-    pub count_size: usize,
-    pub start: u64,
-}
-
-// Zeros over a whole slice.
-fn clear(to: &mut [u8])
-    ensures { λ _. ⌜ now (to .exit) ≡ replicate (length (now (to .entry))) 0 ⌝ }
-{
-    let n = to.len();
-    let mut i = 0;
-    while i < n {
-        to[i] = 0;
-        i += 1;
-    }
-}
-
-// Puts the signature, whose last two letters are given, the version and the tree type.
-fn put_front(node: &mut [u8], third: u8, fourth: u8, tree_type: u8)
-    requires { ⌜ 6 ≤ length (now node) ⌝ }
-    ensures { λ _. ⌜ now (node .exit) ≡ stored (now (node .entry)) 0 (66 ∷ 84 ∷ third ∷ fourth ∷ 0 ∷ «tree_type» ∷ []) ⌝ }
-{
-    node[0] = 66;
-    node[1] = 84;
-    node[2] = third;
-    node[3] = fourth;
-    node[4] = 0;
-    node[5] = tree_type;
-}
 
 // Puts `count` bytes of the record list, from its place `first` on, at `at`.
 fn put_rows(node: &mut [u8], at: usize, records: &[u8], first: usize, count: usize)
@@ -79,16 +37,6 @@ fn put_number(node: &mut [u8], at: usize, x: u64, width: usize) -> usize
     fields::write_le(node, at, x, width)
 }
 
-// Puts the checksum of the first `used` bytes after them, and zeros to the node size.
-fn seal(node: &mut [u8], used: usize, node_size: usize)
-    requires { ⌜ (used + 4 ≤ «node_size») × («node_size» ≤ length (now node)) ⌝ }
-    ensures { λ _. ⌜ now (node .exit) ≡ stored (now (node .entry)) used (le 4 (lookup3 (take used (now (node .entry)))) ++ replicate («node_size» - (used + 4)) 0) ⌝ }
-{
-    let sum = checksum::jenkins_lookup3(&node[..used]);
-    let end = put_number(node, used, sum as u64, 4);
-    clear(&mut node[end..node_size]);
-}
-
 // Fills a leaf of n records, the first of them record r.
 fn fill_leaf(node: &mut [u8], layout: Layout, records: &[u8], n: usize, r: usize)
     requires { ⌜ (layout .«node_size» ≤ length (now node)) × (10 + n * layout .«record_size» ≤ layout .«node_size») × ((r + n) * layout .«record_size» ≤ length (now records)) ⌝ }
@@ -96,9 +44,9 @@ fn fill_leaf(node: &mut [u8], layout: Layout, records: &[u8], n: usize, r: usize
 {
     let size = layout.record_size;
     let bytes = n * size;
-    put_front(node, 76, 70, layout.tree_type);
+    frame::put_front(node, 76, 70, layout.tree_type);
     put_rows(node, 6, records, r * size, bytes);
-    seal(node, 6 + bytes, layout.node_size);
+    frame::seal(node, 6 + bytes, layout.node_size);
 }
 
 // Writes a leaf as node j of the image.
@@ -152,6 +100,14 @@ fn put_own_rows(
     at
 }
 
+// The address of node j.
+fn node_address(layout: Layout, j: usize) -> u64
+    requires { ⌜ layout .start + j * layout .«node_size» < 2 ^ 64 ⌝ }
+    ensures { λ a. ⌜ a ≡ layout .start + j * layout .«node_size» ⌝ }
+{
+    layout.start + ((j * layout.node_size) as u64)
+}
+
 // Puts the pointer to a child whose first node is node j, and gives the place after it.
 fn put_pointer(
     node: &mut [u8],
@@ -164,8 +120,7 @@ fn put_pointer(
     requires { ⌜ (at + pointerSize layout «total_size» ≤ length (now node)) × (0 < child .nodes) × (0 < layout .«node_size») × (layout .start + (j + child .nodes) * layout .«node_size» < 2 ^ 64) ⌝ }
     ensures { λ p. ⌜ (now (node .exit) ≡ stored (now (node .entry)) at (pointerTo layout «total_size» child j)) × (p ≡ at + pointerSize layout «total_size») ⌝ }
 {
-    let root = j + (child.nodes - 1);
-    let address = layout.start + ((root * layout.node_size) as u64);
+    let address = node_address(layout, j + (child.nodes - 1));
     let at = put_number(node, at, address, layout.offset_size);
     let at = put_number(node, at, child.records, layout.count_size);
     put_number(node, at, child.total, total_size)
@@ -228,7 +183,7 @@ fn fill_internal(node: &mut [u8], layout: Layout, records: &[u8], inner: Inner)
     let extra = inner.extra;
     let large = inner.large;
     let small = inner.small;
-    put_front(node, 73, 78, layout.tree_type);
+    frame::put_front(node, 73, 78, layout.tree_type);
     let at = put_own_rows(
         node,
         layout.record_size,
@@ -249,7 +204,7 @@ fn fill_internal(node: &mut [u8], layout: Layout, records: &[u8], inner: Inner)
         inner.total_size,
         inner.first_node,
     );
-    seal(node, end, layout.node_size);
+    frame::seal(node, end, layout.node_size);
 }
 
 // Writes an internal node as node j of the image.
@@ -335,33 +290,6 @@ fn write_subtree(
     next + 1
 }
 
-// Puts the header's first sixteen bytes, to the merge percent.
-fn put_fixed(header: &mut [u8], layout: Layout, depth: u64)
-    requires { ⌜ 16 ≤ length (now header) ⌝ }
-    ensures { λ _. ⌜ now (header .exit) ≡ stored (now (header .entry)) 0 (fixedBytes layout depth) ⌝ }
-{
-    put_front(header, 72, 68, layout.tree_type);
-    put_number(header, 6, layout.node_size as u64, 4);
-    put_number(header, 10, layout.record_size as u64, 2);
-    put_number(header, 12, depth, 2);
-    put_number(header, 14, SPLIT_PERCENT, 1);
-    put_number(header, 15, MERGE_PERCENT, 1);
-}
-
-// Puts the header's bytes; the root is given as a child is.
-fn write_header(header: &mut [u8], layout: Layout, length_size: usize, depth: u64, root: Child)
-    requires { ⌜ (22 + layout .«offset_size» + «length_size» ≤ length (now header)) × (0 < root .nodes) × (0 < layout .«node_size») × (layout .start + root .nodes * layout .«node_size» < 2 ^ 64) ⌝ }
-    ensures { λ _. ⌜ now (header .exit) ≡ stored (now (header .entry)) 0 (headerBytes (formAt layout) «length_size» depth (address (formAt layout) (layout .start) (root .nodes - 1)) (root .records) (root .total)) ⌝ }
-{
-    let place = (root.nodes - 1) * layout.node_size;
-    let address = layout.start + (place as u64);
-    put_fixed(header, layout, depth);
-    let at = put_number(header, 16, address, layout.offset_size);
-    let at = put_number(header, at, root.records, 2);
-    let at = put_number(header, at, root.total, length_size);
-    seal(header, at, at + 4);
-}
-
 // Writes all nodes of the tree.
 fn write_image(
     image: &mut [u8],
@@ -413,14 +341,17 @@ fn write_planned(
     let wide = info.cum_max_nrec_size;
     let depth = plan.depth as usize;
     let n = request.record_count as usize;
+    let nodes = plan.nodes as usize;
     write_image(image, layout, records, &most, &wide, depth, n);
-    let root = child_of(&most, depth, n, plan.nodes as usize);
-    write_header(
+    let root = child_of(&most, depth, n, nodes);
+    frame::write_header(
         header,
         layout,
         request.length_size as usize,
         plan.depth as u64,
-        root,
+        node_address(layout, nodes - 1),
+        root.records,
+        root.total,
     );
 }
 

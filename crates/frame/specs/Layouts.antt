@@ -1,10 +1,10 @@
--- What the functions that fill nodes go by, in the terms of the format's definitions.
+-- The layout of a tree in the terms of the format's definitions.
 use Prim.Native.Nat.{ℕ}
 use mathlib.Core.List.{List, [], _∷_, _++_}
 use Rattle.fields.specs.Numbers.{le}
 use Rattle.node_info.specs.Capacity.{totalWidth}
 use Rattle.format.specs.Bytes.{Form, headerSignature}
-use Rattle.btree_v2_write.specs.declared.Layout.{Layout}
+use Rattle.frame.specs.declared.Layout.{Layout}
 
 -- The form of the nodes of a layout.
 abbrev pub formAt : Layout → Form

@@ -1,9 +1,9 @@
 -- The loop of `clear`: the first i bytes are 0.
-use Rattle.btree_v2_write.proofs.Nodes.{Cleared, cleared-turn, cleared-end}
+use Rattle.frame.proofs.Frames.{Cleared, cleared-turn, cleared-end}
 use Prim.Native.Nat.{_-_}
 use borrow.Author.Needs.{needs}
-use Rattle.btree_v2_write.proofs.clear.Statement.{statement}
-use Rattle.btree_v2_write.proofs.clear.Tie as tie
+use Rattle.frame.proofs.clear.Statement.{statement}
+use Rattle.frame.proofs.clear.Tie as tie
 
 abbrev Inv-loop : tie.InvT-loop
 Inv-loop to₀ n i₀ to i = Cleared to₀ to i
