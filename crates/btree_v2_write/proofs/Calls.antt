@@ -32,7 +32,7 @@ use Rattle.format.proofs.HeaderReturn.{length-headerOf}
 use Rattle.format.proofs.Fronts.{header-left, image-left}
 use Rattle.format.proofs.Outcomes.{over-stored, header-put, image-put}
 use Rattle.frame.specs.declared.Layout.{Layout}
-use Rattle.btree_v2_write.specs.declared.Child.{Child}
+use Rattle.btree_v2_write.specs.declared.node.Child.{Child}
 use Rattle.write_request.specs.declared.Request as own
 use Rattle.frame.specs.Layouts.{formAt}
 use Rattle.btree_v2_write.specs.Subtrees.{subtreeNodes, subtreeImage, Made, Whole}

@@ -20,8 +20,8 @@ use Rattle.fields.proofs.Lists.{stored-nil, stored-append, length-stored, lengt
 use Rattle.fields.proofs.Numbers.{le-length, lt-or-le}
 use Rattle.frame.specs.declared.Layout.{Layout}
 use Rattle.format.specs.Bytes.{padded}
-use Rattle.btree_v2_write.specs.declared.Child.{Child}
-use Rattle.btree_v2_write.specs.declared.Inner.{Inner}
+use Rattle.btree_v2_write.specs.declared.node.Child.{Child}
+use Rattle.btree_v2_write.specs.declared.node.Inner.{Inner}
 use Rattle.btree_v2_write.specs.Shares.{twoSizes, withOne, rowsAfter, pointerSize, pointerTo, pointersTo, nodesOfAll, InnerFits, innerShares, innerChildren, innerBytes}
 use Rattle.frame.specs.Seals.{sealed}
 use Rattle.frame.proofs.Frames.{after-front, node-sealed}

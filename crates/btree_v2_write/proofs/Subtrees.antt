@@ -25,8 +25,8 @@ use Rattle.format.specs.Bytes.{padded, leafBytes, image}
 use Rattle.format.proofs.Lengths.{Fit, length-image, length-children}
 use Rattle.frame.specs.declared.Layout.{Layout}
 use Rattle.frame.specs.Layouts.{formAt}
-use Rattle.btree_v2_write.specs.declared.Child.{Child}
-use Rattle.btree_v2_write.specs.declared.Inner.{Inner}
+use Rattle.btree_v2_write.specs.declared.node.Child.{Child}
+use Rattle.btree_v2_write.specs.declared.node.Inner.{Inner}
 use Rattle.btree_v2_write.specs.Shares.{twoSizes, withOne, nodesOfAll, innerChildren, innerBytes, InnerFits}
 use Rattle.btree_v2_write.specs.Subtrees.{capacities, subtree, subtreeNodes, subtreeImage, Ready, Made, Whole}
 use Rattle.btree_v2_write.proofs.Internal.{from, from-first, from-step, from-end, stored-turn}

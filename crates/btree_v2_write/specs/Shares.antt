@@ -3,8 +3,8 @@ use Prim.Native.Nat.{ℕ, zero, suc, _+_, _-_, _*_, _^_, _≤_, _<_}
 use mathlib.Core.List.{List, [], _∷_, _++_}
 use Rattle.fields.specs.Numbers.{le, part}
 use Rattle.format.specs.Bytes.{internalSignature}
-use Rattle.btree_v2_write.specs.declared.Child.{Child}
-use Rattle.btree_v2_write.specs.declared.Inner.{Inner}
+use Rattle.btree_v2_write.specs.declared.node.Child.{Child}
+use Rattle.btree_v2_write.specs.declared.node.Inner.{Inner}
 use Rattle.frame.specs.declared.Layout.{Layout}
 
 -- The first k of children of which the first `extra` are `large` and the others `small`.

@@ -13,7 +13,7 @@ use Rattle.plan.proofs.Trees.{Everywhere}
 use Rattle.format.specs.Bytes.{image}
 use Rattle.format.proofs.Lengths.{Fit}
 use Rattle.frame.specs.declared.Layout.{Layout}
-use Rattle.btree_v2_write.specs.declared.Child.{Child}
+use Rattle.btree_v2_write.specs.declared.node.Child.{Child}
 use Rattle.frame.specs.Layouts.{formAt}
 
 -- What subtrees of each level hold.

@@ -1,8 +1,8 @@
 -- The first `extra` get one more.
 use Rattle.btree_v2_write.proofs.Internal.{pick-lt, pick-le}
 use borrow.Author.Needs.{needs}
-use Rattle.btree_v2_write.proofs.share.Statement.{statement}
-use Rattle.btree_v2_write.proofs.share.Tie as tie
+use Rattle.btree_v2_write.proofs.node.share.Statement.{statement}
+use Rattle.btree_v2_write.proofs.node.share.Tie as tie
 
 pub share-spec : {M : Type 1} → statement M
 share-spec =

@@ -1,8 +1,8 @@
 -- A field that fits.
 use Rattle.btree_v2_write.proofs.Nodes.{number-put}
 use borrow.Author.Needs.{needs}
-use Rattle.btree_v2_write.proofs.put_number.Statement.{statement}
-use Rattle.btree_v2_write.proofs.put_number.Tie as tie
+use Rattle.btree_v2_write.proofs.node.put_number.Statement.{statement}
+use Rattle.btree_v2_write.proofs.node.put_number.Tie as tie
 
 pub put-number-spec : {M : Type 1} → statement M
 put-number-spec =

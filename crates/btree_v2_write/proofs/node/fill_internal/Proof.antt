@@ -1,8 +1,8 @@
 -- Front, own records, pointers, checksum and zeros, each after the one before.
 use Rattle.btree_v2_write.proofs.Internal.{inner-filled}
 use borrow.Author.Needs.{needs}
-use Rattle.btree_v2_write.proofs.fill_internal.Statement.{statement}
-use Rattle.btree_v2_write.proofs.fill_internal.Tie as tie
+use Rattle.btree_v2_write.proofs.node.fill_internal.Statement.{statement}
+use Rattle.btree_v2_write.proofs.node.fill_internal.Tie as tie
 
 pub fill-internal-spec : {M : Type 1} → statement M
 fill-internal-spec =

@@ -1,8 +1,8 @@
 -- The rows go to their place.
 use Rattle.fields.proofs.Copying.{part-put}
 use borrow.Author.Needs.{needs}
-use Rattle.btree_v2_write.proofs.put_rows.Statement.{statement}
-use Rattle.btree_v2_write.proofs.put_rows.Tie as tie
+use Rattle.btree_v2_write.proofs.node.put_rows.Statement.{statement}
+use Rattle.btree_v2_write.proofs.node.put_rows.Tie as tie
 
 pub put-rows-spec : {M : Type 1} → statement M
 put-rows-spec =

@@ -3,8 +3,8 @@ use Rattle.btree_v2_write.proofs.Internal.{PointersLeft, pointers-start
 use Prim.Native.Nat.{_+_, _-_}
 use borrow.Author.Needs.{needs}
 use native.Mathlib.Omega.{arith}
-use Rattle.btree_v2_write.proofs.put_pointers.Statement.{statement}
-use Rattle.btree_v2_write.proofs.put_pointers.Tie as tie
+use Rattle.btree_v2_write.proofs.node.put_pointers.Statement.{statement}
+use Rattle.btree_v2_write.proofs.node.put_pointers.Tie as tie
 
 abbrev Inv-loop : tie.InvT-loop
 Inv-loop o l at kept extra large small t j at₀ next₀ i₀ d at′ next i = PointersLeft o l at kept extra t j large small d at′ next i

@@ -2,8 +2,8 @@
 use Rattle.btree_v2_write.proofs.Subtrees.{made-leaf, made-node}
 use mathlib.Core.Path.{refl}
 use borrow.Author.Needs.{needs}
-use Rattle.btree_v2_write.proofs.child_of.Statement.{statement}
-use Rattle.btree_v2_write.proofs.child_of.Tie as tie
+use Rattle.btree_v2_write.proofs.subtree.child_of.Statement.{statement}
+use Rattle.btree_v2_write.proofs.subtree.child_of.Tie as tie
 
 pub child-of-spec : {M : Type 1} → statement M
 child-of-spec =

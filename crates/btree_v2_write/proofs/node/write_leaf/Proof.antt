@@ -2,8 +2,8 @@
 use Rattle.btree_v2_write.proofs.Nodes.{node-placed}
 use borrow.Author.Needs.{needs}
 use native.Mathlib.Omega.{arith}
-use Rattle.btree_v2_write.proofs.write_leaf.Statement.{statement}
-use Rattle.btree_v2_write.proofs.write_leaf.Tie as tie
+use Rattle.btree_v2_write.proofs.node.write_leaf.Statement.{statement}
+use Rattle.btree_v2_write.proofs.node.write_leaf.Tie as tie
 
 pub write-leaf-spec : {M : Type 1} → statement M
 write-leaf-spec =

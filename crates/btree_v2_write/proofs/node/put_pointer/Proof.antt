@@ -2,8 +2,8 @@
 use Rattle.btree_v2_write.proofs.Internal.{address-fits, number-fits, pointer-put}
 use borrow.Author.Needs.{needs}
 use native.Mathlib.Omega.{arith}
-use Rattle.btree_v2_write.proofs.put_pointer.Statement.{statement}
-use Rattle.btree_v2_write.proofs.put_pointer.Tie as tie
+use Rattle.btree_v2_write.proofs.node.put_pointer.Statement.{statement}
+use Rattle.btree_v2_write.proofs.node.put_pointer.Tie as tie
 
 pub put-pointer-spec : {M : Type 1} → statement M
 put-pointer-spec =

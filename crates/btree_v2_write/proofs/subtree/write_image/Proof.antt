@@ -1,8 +1,8 @@
 -- A leaf alone, or a subtree.
 use Rattle.btree_v2_write.proofs.Subtrees.{whole-leaf, leaf-written, node-written}
 use borrow.Author.Needs.{needs}
-use Rattle.btree_v2_write.proofs.write_image.Statement.{statement}
-use Rattle.btree_v2_write.proofs.write_image.Tie as tie
+use Rattle.btree_v2_write.proofs.subtree.write_image.Statement.{statement}
+use Rattle.btree_v2_write.proofs.subtree.write_image.Tie as tie
 
 pub write-image-spec : {M : Type 1} → statement M
 write-image-spec =

@@ -1,8 +1,8 @@
 -- Front, records, checksum and zeros, each after the one before.
 use Rattle.btree_v2_write.proofs.Nodes.{leaf-filled}
 use borrow.Author.Needs.{needs}
-use Rattle.btree_v2_write.proofs.fill_leaf.Statement.{statement}
-use Rattle.btree_v2_write.proofs.fill_leaf.Tie as tie
+use Rattle.btree_v2_write.proofs.node.fill_leaf.Statement.{statement}
+use Rattle.btree_v2_write.proofs.node.fill_leaf.Tie as tie
 
 pub fill-leaf-spec : {M : Type 1} → statement M
 fill-leaf-spec =

@@ -3,16 +3,16 @@
 use Prim.Native.Nat.{ℕ, _<_}
 use borrow.Fn.Kinds.{In}
 use borrow.Fn.PlainCycle.{Measures, is, falls, and}
-use Rattle.btree_v2_write.proofs.write_subtree.Reads as write-subtree
-use Rattle.btree_v2_write.proofs.write_subtree.Kinds as write-subtree-kinds
-use Rattle.btree_v2_write.proofs.+write_subtree.Lts-write_subtree as write-subtree-lts
-use Rattle.btree_v2_write.proofs.child_of.Reads as child-of-reads
-use Rattle.btree_v2_write.proofs.share.Reads as share-reads
-use Rattle.btree_v2_write.proofs.write_internal.Reads as write-internal-reads
-use Rattle.btree_v2_write.proofs.write_leaf.Reads as write-leaf-reads
+use Rattle.btree_v2_write.proofs.subtree.write_subtree.Reads as write-subtree
+use Rattle.btree_v2_write.proofs.subtree.write_subtree.Kinds as write-subtree-kinds
+use Rattle.btree_v2_write.proofs.subtree.+write_subtree.Lts-write_subtree as write-subtree-lts
+use Rattle.btree_v2_write.proofs.subtree.child_of.Reads as child-of-reads
+use Rattle.btree_v2_write.proofs.node.share.Reads as share-reads
+use Rattle.btree_v2_write.proofs.node.write_internal.Reads as write-internal-reads
+use Rattle.btree_v2_write.proofs.node.write_leaf.Reads as write-leaf-reads
 use Rattle.plan.proofs.deal.Reads as deal-reads
-use Rattle.btree_v2_write.proofs.+write_subtree.{statement}
-use Rattle.btree_v2_write.proofs.+write_subtree.Tie.{close}
+use Rattle.btree_v2_write.proofs.subtree.+write_subtree.{statement}
+use Rattle.btree_v2_write.proofs.subtree.+write_subtree.Tie.{close}
 use mathlib.Core.Path.{refl}
 use Prim.Native.Nat.{_+_, _-_}
 use native.Mathlib.Omega.{arith}

@@ -1,7 +1,7 @@
 -- The first `extra` are large.
 use Rattle.btree_v2_write.proofs.Internal.{pick-lt, pick-le}
-use Rattle.btree_v2_write.proofs.one_of.Statement.{statement}
-use Rattle.btree_v2_write.proofs.one_of.Tie as tie
+use Rattle.btree_v2_write.proofs.node.one_of.Statement.{statement}
+use Rattle.btree_v2_write.proofs.node.one_of.Tie as tie
 
 pub one-of-spec : {M : Type 1} → statement M
 one-of-spec =

@@ -2,8 +2,8 @@
 use Rattle.btree_v2_write.proofs.Internal.{RowsLeft, rows-start, row-fits, row-next-fits, row-offset-fits, row-asked, place-fits, rows-turn, rows-end}
 use Prim.Native.Nat.{_-_}
 use borrow.Author.Needs.{needs}
-use Rattle.btree_v2_write.proofs.put_own_rows.Statement.{statement}
-use Rattle.btree_v2_write.proofs.put_own_rows.Tie as tie
+use Rattle.btree_v2_write.proofs.node.put_own_rows.Statement.{statement}
+use Rattle.btree_v2_write.proofs.node.put_own_rows.Tie as tie
 
 abbrev Inv-loop : tie.InvT-loop
 Inv-loop o rs recs kept base extra r at₀ row₀ i₀ d at row i = RowsLeft o recs rs kept base extra r d at row i
