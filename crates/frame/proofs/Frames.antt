@@ -64,7 +64,7 @@ module _ (o : List ℕ) (used ns : ℕ) where
   seal-full h k = no-sum (omega arith)
 
   module _ (h : used + 4 ≤ ns) (l : ns ≤ length o) where
-    pub sealed-is : sealed o used ns ≡ stored o used (le 4 (lookup3 (take used o)) ++ replicate (ns - (used + 4)) 0)
+    sealed-is : sealed o used ns ≡ stored o used (le 4 (lookup3 (take used o)) ++ replicate (ns - (used + 4)) 0)
     unfolding sealed
     sealed-is = rw (le-leb (used + 4) ns h, le-leb ns (length o) l)
 

@@ -36,11 +36,14 @@ unfolding fixedBytes le
 fixed-put l depth o a b c d e f h ha hb hc hd he hf =
     let front : List ℕ = 66 ∷ 84 ∷ 72 ∷ 68 ∷ 0 ∷ l .«tree_type» ∷ [] in
     let s = put-fits o 0 front (omega arith) in
+    let sized = front ++ le 4 (l .«node_size») in
+    let recorded = sized ++ le 2 (l .«record_size») in
+    let deep = recorded ++ le 2 depth in
     let x = next-field o a b front 6 4 (l .«node_size») (omega arith) (ha ∙ s) refl hb in
-    let y = next-field o b c (front ++ le 4 (l .«node_size»)) 10 2 (l .«record_size») (omega arith) x refl hc in
-    let z = next-field o c d ((front ++ le 4 (l .«node_size»)) ++ le 2 (l .«record_size»)) 12 2 depth (omega arith) y refl hd in
-    let u = next-field o d e (((front ++ le 4 (l .«node_size»)) ++ le 2 (l .«record_size»)) ++ le 2 depth) 14 1 100 (omega arith) z refl he in
-    next-field o e f ((((front ++ le 4 (l .«node_size»)) ++ le 2 (l .«record_size»)) ++ le 2 depth) ++ le 1 100) 15 1 40 h u refl hf
+    let y = next-field o b c sized 10 2 (l .«record_size») (omega arith) x refl hc in
+    let z = next-field o c d recorded 12 2 depth (omega arith) y refl hd in
+    let u = next-field o d e deep 14 1 100 (omega arith) z refl he in
+    next-field o e f (deep ++ le 1 100) 15 1 40 h u refl hf
 
 -- A node without zeros; the header's bytes before its checksum.
 padded-exact : (b : List ℕ) (m : ℕ) → m ≡ length b + 4 → padded m b ≡ summed b
