@@ -19,12 +19,6 @@ use Rattle.frame.specs.Layouts.{formAt}
 use Rattle.frame.specs.Seals.{sealed}
 use Rattle.frame.proofs.Frames.{after-front, node-sealed}
 
--- A part up to the end, in which something was stored from its front on.
-tail-stored : (o : List ℕ) (a : ℕ) (b : List ℕ) → a ≤ length o
-    → putMid a (length o - a) o (stored (part o a (length o - a)) 0 b) ≡ stored o a b
-tail-stored o a b h =
-    rw (take-all (length o - a) (drop a o) (le-of-eq (length-drop a o)), ← length-drop a o, drop-length, append-nil, stored-drop, add-zero)
-
 -- `put_number`: a field that fits.
 pub number-put : (o d : List ℕ) (at x w r : ℕ) → at + w ≤ length o → d ≡ put o at (le w x) → r ≡ pick (leb (at + w) (length o)) (at + w) at
     → (d ≡ stored o at (le w x)) × (r ≡ at + w)
@@ -46,4 +40,5 @@ leaf-filled l o d e z records n r h k m hd he hz =
 
 -- A node filled from the front of what follows its place.
 pub node-placed : (o d b : List ℕ) (a : ℕ) → a ≤ length o → d ≡ stored (part o a (length o - a)) 0 b → putMid a (length o - a) o d ≡ stored o a b
-node-placed o d b a h e = rw (e, tail-stored o a b h)
+node-placed o d b a h e =
+    rw (e, take-all (length o - a) (drop a o) (le-of-eq (length-drop a o)), ← length-drop a o, drop-length, append-nil, stored-drop, add-zero)
