@@ -2,11 +2,12 @@
 use mathlib.Core.Path.{_≡_, refl, sym, _∙_, ap, subst, subst⁻¹}
 use mathlib.Core.List.{List, [], _∷_}
 use Prim.Native.Nat.{ℕ, _+_, _-_, _*_, _^_, _≤_, _<_}
-use native.Mathlib.Nat.{mul-le-mul-right}
+use native.Mathlib.Nat.{zero-add, mul-le-mul-right}
 use native.Mathlib.Omega.{arith}
 use lib.Pow.{pow-mono, pow-pos}
 use lib.ListN.{length, getD}
-use Rattle.fields.specs.Places.{stored}
+use Rattle.fields.specs.Places.{stored, put}
+use Rattle.fields.proofs.Lists.{put-fits}
 use Rattle.fields.proofs.Numbers.{field-size-le}
 use Rattle.refusal.specs.declared.Refusal.{Refusal}
 use Rattle.refusal.specs.Answer.{refused}
@@ -27,15 +28,17 @@ use Rattle.format.specs.Bytes.{address, headerBytes, image}
 use Rattle.format.specs.Writing.{Request, formOf, depthOf, nodesOf, imageOf, rootOf, rootRecordsOf, headerOf, written, headerExit, imageExit}
 use Rattle.format.proofs.Accepted.{Accepts, Roomy, accepts, roomy, plan-accepted}
 use Rattle.format.proofs.Collected.{fits}
+use Rattle.format.proofs.HeaderReturn.{length-headerOf}
 use Rattle.format.proofs.Fronts.{header-left, image-left}
 use Rattle.format.proofs.Outcomes.{over-stored, header-put, image-put}
-use Rattle.btree_v2_write.specs.declared.Layout.{Layout}
-use Rattle.btree_v2_write.specs.declared.Child.{Child}
+use Rattle.frame.specs.declared.Layout.{Layout}
+use Rattle.btree_v2_write.specs.declared.node.Child.{Child}
 use Rattle.write_request.specs.declared.Request as own
-use Rattle.btree_v2_write.specs.Layouts.{formAt}
+use Rattle.frame.specs.Layouts.{formAt}
 use Rattle.btree_v2_write.specs.Subtrees.{subtreeNodes, subtreeImage, Made, Whole}
 use Rattle.write_request.specs.Tests.{requestOf, Checked}
 use Rattle.btree_v2_write.specs.Call.{layoutOf, Accepted, Wrote}
+use Rattle.btree_v2_write.proofs.Internal.{address-fits}
 use Rattle.btree_v2_write.proofs.Subtrees.{root-records}
 
 module _ (r : own.Request) (p : BTreeV2Plan) (info : NodeInfo) (recs hdr img : List ℕ) (a : Accepted (requestOf r) p info recs hdr img) where
@@ -132,28 +135,33 @@ module _ (r : own.Request) (p : BTreeV2Plan) (info : NodeInfo) (recs hdr img : L
       let same : subtreeImage l recs (depthOf q) (q .n) 0 0 ≡ imageOf q recs = rw form-is in
       rw (image-put q recs hdr img _ (a .figures), over-stored, ← same, ← depth-is) e
 
-  -- The header can be written.
-  module _ (root : Child) (made : Made (getD (info .«cum_max_nrec») (p .depth - 1) 0) (p .depth) (q .n) (p .nodes) root) where
-    pub header-ready : (22 + q .ow + q .lw ≤ length hdr) × (0 < root .nodes) × (0 < q .ns) × (q .start + root .nodes * q .ns < 2 ^ 64)
-    unfolding nodesOf nodes
-    header-ready = let e : root .nodes ≡ nodesOf q = made .nodes ∙ nodes-is in (room .header, rw e (omega arith), omega (arith, known .0 .pass), rw e ends)
+  -- The root has a number and an address.
+  pub root-some : 1 ≤ p .nodes
+  root-some = rw nodes-is one-node
 
+  pub root-short : q .start + (p .nodes - 1) * q .ns < 2 ^ 64
+  root-short = address-fits (q .start) 0 (nodesOf q) (q .ns) (omega (arith, known .0 .pass)) (rw zero-add ends) (p .nodes - 1) (omega (arith, nodes-is))
+
+  root-address : q .start + (p .nodes - 1) * q .ns ≡ rootOf q
+  unfolding rootOf address formOf nodesOf nodes
+  root-address = let e : p .nodes - 1 ≡ below (depthOf q) (planned (q .n) (q .rs) (q .ns) (q .ow)) = omega (arith, nodes-is) in rw e
+
+  module _ (root : Child) (made : Made (getD (info .«cum_max_nrec») (p .depth - 1) 0) (p .depth) (q .n) (p .nodes) root) where
     root-count : root .records ≡ rootRecordsOf q
     unfolding rootRecordsOf planned
     root-count =
         let m = subst (λ (d : ℕ). Made (getD (info .«cum_max_nrec») (d - 1) 0) d (q .n) (p .nodes) root) depth-is made in
         m .records ∙ root-records l (info .«cum_max_nrec») (depthOf q) (q .n) caps
 
-    root-address : address (formOf q) (q .start) (root .nodes - 1) ≡ rootOf q
-    unfolding rootOf nodesOf nodes
-    root-address = let e : root .nodes - 1 ≡ below (depthOf q) (planned (q .n) (q .rs) (q .ns) (q .ow)) = omega (arith, made .nodes, nodes-is) in rw e
-
-    pub header-done : (z : List ℕ)
-        → z ≡ stored hdr 0 (headerBytes (formAt l) (q .lw) (p .depth) (address (formAt l) (q .start) (root .nodes - 1)) (root .records) (root .total))
-        → z ≡ headerExit q recs hdr img
+    -- The header goes where it fits.
+    pub header-done : (z : List ℕ) (at : ℕ) → at ≡ q .start + (p .nodes - 1) * q .ns
+        → z ≡ put hdr 0 (headerBytes (formAt l) (q .lw) (p .depth) at (root .records) (root .total)) → z ≡ headerExit q recs hdr img
     unfolding headerOf
-    header-done z e =
-        rw (header-put q recs hdr img _ (a .figures), over-stored, e, form-is, depth-is, root-address, root-count, made .total)
+    header-done z at is e =
+        let same : headerBytes (formAt l) (q .lw) (p .depth) at (root .records) (root .total) ≡ headerOf q =
+        rw (is, form-is, depth-is, root-address, root-count, made .total) in
+        let fits : length (headerOf q) ≤ length hdr = rw length-headerOf (room .header) in
+        rw (header-put q recs hdr img _ (a .figures), over-stored, e, same, put-fits hdr 0 (headerOf q) (omega arith))
 
 -- `write`, by its two ways out.
 module _ (q : Request) (recs hdr img : List ℕ) (x : PlanAnswer) (info : NodeInfo)

@@ -13,18 +13,18 @@ use borrow.Author.Tests.{lt-ltb, le-ltb}
 use mir.Val.{Fits}
 use mir.Syntax.{w64}
 use lib.Dec.{ltb}
-use lib.ListN.{length, take, replicate, length-append}
+use lib.ListN.{length, length-append}
 use Rattle.fields.specs.Numbers.{pick, le, part}
-use Rattle.fields.specs.Places.{stored}
-use Rattle.fields.proofs.Lists.{stored-nil, stored-append, length-stored, length-part}
+use Rattle.fields.specs.Places.{stored, put}
+use Rattle.fields.proofs.Lists.{stored-nil, stored-append, length-stored, length-part, put-fits}
 use Rattle.fields.proofs.Numbers.{le-length, lt-or-le}
-use Rattle.btree_v2_write.specs.declared.Layout.{Layout}
-use Rattle.checksum.specs.Lookup3.{lookup3}
+use Rattle.frame.specs.declared.Layout.{Layout}
 use Rattle.format.specs.Bytes.{padded}
-use Rattle.btree_v2_write.specs.declared.Child.{Child}
-use Rattle.btree_v2_write.specs.declared.Inner.{Inner}
+use Rattle.btree_v2_write.specs.declared.node.Child.{Child}
+use Rattle.btree_v2_write.specs.declared.node.Inner.{Inner}
 use Rattle.btree_v2_write.specs.Shares.{twoSizes, withOne, rowsAfter, pointerSize, pointerTo, pointersTo, nodesOfAll, InnerFits, innerShares, innerChildren, innerBytes}
-use Rattle.btree_v2_write.proofs.Nodes.{after-front, node-sealed}
+use Rattle.frame.specs.Seals.{sealed}
+use Rattle.frame.proofs.Frames.{after-front, node-sealed}
 
 pub pick-lt : {A : Type 0} (i e : ℕ) (x y : A) → i < e → x ≡ pick (ltb i e) x y
 pick-lt i e x y h = rw (lt-ltb i e h)
@@ -149,32 +149,25 @@ module _ (o recs : List ℕ) (rs kept base extra r : ℕ) where
       let e : i ≡ kept = omega (arith, inv .within) in
       (sym (stored-nil d at) ∙ (rw (from-end kept extra (base + 1) base i h) at (inv .left)), rw (← e) (inv .place))
 
--- A node x among the n nodes from node j on, or the one after them: its number, its place and its address fit.
+-- A node x among the n nodes from node j on, or the one after them: its number fits, and so does its address.
 module _ (start j n ns : ℕ) (pos : 0 < ns) (short : start + (j + n) * ns < 2 ^ 64) (x : ℕ) (within : x ≤ j + n) where
-  below-all : x * ns ≤ (j + n) * ns
-  below-all = mul-le-mul-right ns within
+  pub address-fits : start + x * ns < 2 ^ 64
+  address-fits = omega (arith, mul-le-mul-right ns within)
 
-  pub node-fits : Fits w64 x
-  node-fits = let a = le-mul-of-pos-right x pos in omega (arith, a, below-all)
-
-  pub node-place-fits : Fits w64 (x * ns)
-  node-place-fits = omega (arith, below-all)
-
-  pub node-address-fits : Fits w64 (start + x * ns)
-  node-address-fits = omega (arith, below-all)
+  pub number-fits : Fits w64 x
+  number-fits = omega (arith, le-mul-of-pos-right x pos, address-fits)
 
 -- `put_pointer`: three fields, one after another.
-module _ (l : Layout) (o d e f : List ℕ) (at t j p q : ℕ) (x : Child) where
-  pub pointer-put : at + pointerSize l t ≤ length o
-      → d ≡ stored o at (le (l .«offset_size») (l .start + (j + (x .nodes - 1)) * l .«node_size»)) → p ≡ at + l .«offset_size»
-      → e ≡ stored d p (le (l .«count_size») (x .records)) → q ≡ p + l .«count_size» → f ≡ stored e q (le t (x .total))
-      → f ≡ stored o at (pointerTo l t x j)
+module _ (l : Layout) (o d e f : List ℕ) (at t j p q address : ℕ) (x : Child) where
+  pub pointer-put : at + pointerSize l t ≤ length o → address ≡ l .start + (j + (x .nodes - 1)) * l .«node_size»
+      → d ≡ stored o at (le (l .«offset_size») address) → p ≡ at + l .«offset_size» → e ≡ stored d p (le (l .«count_size») (x .records))
+      → q ≡ p + l .«count_size» → f ≡ stored e q (le t (x .total)) → f ≡ stored o at (pointerTo l t x j)
   unfolding pointerTo
-  pointer-put h hd hp he hq hf =
-      let a = le (l .«offset_size») (l .start + (j + (x .nodes - 1)) * l .«node_size») in
+  pointer-put h is hd hp he hq hf =
+      let a = le (l .«offset_size») address in
       let b = le (l .«count_size») (x .records) in
       let both : e ≡ stored o at (a ++ b) = rw (he, hd) (stored-turn o at p a b (omega arith) (rw le-length hp)) in
-      rw (hf, both, ← append-assoc)
+      rw (hf, both, ← is, ← append-assoc)
       (stored-turn o at q (a ++ b) (le t (x .total)) (omega arith) (rw (length-append, le-length, le-length) (omega (arith, hp, hq))))
 
 pointer-length : (l : Layout) (t : ℕ) (x : Child) (j : ℕ) → length (pointerTo l t x j) ≡ pointerSize l t
@@ -280,12 +273,11 @@ length-pointers l t (x ∷ xs) j =
 
 -- `fill_internal`: front, own records, pointers, checksum, zeros.
 pub inner-filled : (l : Layout) (o d e f z recs : List ℕ) (x : Inner) (at end : ℕ) → InnerFits l (length recs) x → l .«node_size» ≤ length o
-    → d ≡ stored o 0 (66 ∷ 84 ∷ 73 ∷ 78 ∷ 0 ∷ l .«tree_type» ∷ [])
+    → d ≡ put o 0 (66 ∷ 84 ∷ 73 ∷ 78 ∷ 0 ∷ l .«tree_type» ∷ [])
     → e ≡ stored d 6 (rowsAfter (l .«record_size») recs (innerShares x) (x .«first_row»)) → at ≡ 6 + x .kept * l .«record_size»
     → f ≡ stored e at (pointersTo l (x .«total_size») (innerChildren x) (x .«first_node»))
     → end ≡ at + (x .kept + 1) * pointerSize l (x .«total_size»)
-    → z ≡ stored f end (le 4 (lookup3 (take end f)) ++ replicate (l .«node_size» - (end + 4)) 0)
-    → z ≡ stored o 0 (padded (l .«node_size») (innerBytes l recs x))
+    → z ≡ sealed f end (l .«node_size») → z ≡ stored o 0 (padded (l .«node_size») (innerBytes l recs x))
 unfolding innerBytes
 inner-filled l o d e f z recs x at end fits h hd he hat hf hend hz =
     let front : List ℕ = 66 ∷ 84 ∷ 73 ∷ 78 ∷ 0 ∷ l .«tree_type» ∷ [] in
@@ -295,9 +287,9 @@ inner-filled l o d e f z recs x at end fits h hd he hat hf hend hz =
     rw (length-rows (l .«record_size») recs (innerShares x) (x .«first_row») (fits .rows), length-two) in
     let many : length ptrs ≡ (x .kept + 1) * pointerSize l (x .«total_size») =
     rw (length-pointers l (x .«total_size») (innerChildren x) (x .«first_node»), length-two) in
-    let first = after-front o d e front rows 6 refl hd he in
+    let first = after-front o d e front rows 6 refl (hd ∙ put-fits o 0 front (omega (arith, fits .bytes))) he in
     let both = after-front o e f (front ++ rows) ptrs at (rw (length-append front rows, long) hat) first hf in
     node-sealed o f z (front ++ (rows ++ ptrs)) end (l .«node_size»)
     (rw append-assoc at both)
     (rw (length-append front (rows ++ ptrs), length-append, long, many) (omega (arith, hat, hend)))
-    h hz
+    (omega (arith, hat, hend, fits .bytes)) h hz

@@ -3,5 +3,4 @@ pub mod Nodes
 pub mod Internal
 pub mod Planned
 pub mod Subtrees
-pub mod Headers
 pub mod Calls

@@ -19,10 +19,10 @@ use Rattle.plan.proofs.Lists.{sumOf, AllOf, all-of-map}
 use Rattle.plan.proofs.Plans.{plan-size, plan-nodes}
 use Rattle.plan.proofs.Thin.{thin-children, thin-pos}
 use Rattle.format.specs.Bytes.{rows, address, pointerBytes, pointer, pointers, ownRows, internalBytes, padded, kidsImage, image}
-use Rattle.btree_v2_write.specs.declared.Layout.{Layout}
-use Rattle.btree_v2_write.specs.declared.Child.{Child}
-use Rattle.btree_v2_write.specs.declared.Inner.{Inner}
-use Rattle.btree_v2_write.specs.Layouts.{formAt}
+use Rattle.frame.specs.declared.Layout.{Layout}
+use Rattle.btree_v2_write.specs.declared.node.Child.{Child}
+use Rattle.btree_v2_write.specs.declared.node.Inner.{Inner}
+use Rattle.frame.specs.Layouts.{formAt}
 use Rattle.btree_v2_write.specs.Shares.{twoSizes, withOne, rowsAfter, pointerTo, pointersTo, nodesOfAll, innerBytes, innerShares, innerChildren}
 use Rattle.btree_v2_write.specs.Subtrees.{capacities, subtree, subtreeNodes, subtreeImage}
 

@@ -7,7 +7,7 @@ use Rattle.node_info.specs.declared.NodeInfo.{NodeInfo}
 use Rattle.node_info.specs.Table.{infoAt}
 use Rattle.plan.specs.declared.BTreeV2Plan.{BTreeV2Plan}
 use Rattle.format.specs.Writing.{Request, depthOf, written, headerExit, imageExit}
-use Rattle.btree_v2_write.specs.declared.Layout.{Layout}
+use Rattle.frame.specs.declared.Layout.{Layout}
 use Rattle.write_request.specs.declared.Request as own
 
 abbrev pub asked : ℕ → ℕ → ℕ → ℕ → ℕ → ℕ → ℕ → Request

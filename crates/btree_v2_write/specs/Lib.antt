@@ -1,5 +1,4 @@
 -- The definitions that the contracts of the crate cite.
-pub mod Layouts
 pub mod Shares
 pub mod Subtrees
 pub mod Call

@@ -1,0 +1,16 @@
+-- Front, own records, pointers, checksum and zeros, each after the one before.
+use Rattle.btree_v2_write.proofs.Internal.{inner-filled}
+use borrow.Author.Needs.{needs}
+use Rattle.btree_v2_write.proofs.node.fill_internal.Statement.{statement}
+use Rattle.btree_v2_write.proofs.node.fill_internal.Tie as tie
+
+pub fill-internal-spec : {M : Type 1} → statement M
+fill-internal-spec =
+    tie.close
+    (tie.spec
+    (λ c κs. search needs)
+    (λ c κs. search needs)
+    (λ c κs. search needs)
+    (λ c κs. search needs)
+    (λ c. search needs)
+    (λ c. search inner-filled))
