@@ -25,7 +25,7 @@ use Rattle.btree_v2.specs.declared.collect.Sizes.{Sizes}
 use Rattle.btree_v2.specs.declared.collect.Node.{Node}
 use Rattle.checks.specs.Verdicts.{verdictOf}
 use Rattle.btree_v2.specs.Collecting.{sourceAt, Readable}
-use Rattle.btree_v2_leaf.proofs.Leaves.{front-there}
+use Rattle.checks.proofs.Nodes.{front-there}
 use Rattle.checks.proofs.Checks.{bytes-there, bytes-missing, test-holds, test-fails}
 
 module _ (file : List ℕ) (z : Sizes) (x : Node) where

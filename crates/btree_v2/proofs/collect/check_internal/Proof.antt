@@ -1,6 +1,6 @@
 -- `check_internal` makes its tests in their order.
 use Rattle.btree_v2.proofs.Nodes.{internal-front, internal-signature, internal-rows, internal-pointers, internal-fine, internal-size, pointers-fit}
-use Rattle.btree_v2_leaf.proofs.Leaves.{product-fits, rows-end-fits, node-in}
+use Rattle.checks.proofs.Nodes.{product-fits, rows-end-fits, node-in}
 use borrow.Author.Needs.{needs}
 use Rattle.btree_v2.proofs.collect.check_internal.Statement.{statement}
 use Rattle.btree_v2.proofs.collect.check_internal.Tie as tie

@@ -1,6 +1,6 @@
 -- `read_pointer` reads the fields at the pointer.
 use Rattle.btree_v2.proofs.Nodes.{begin-fits, end-fits, place-offset, place-fits, place-next, pointer-is}
-use Rattle.btree_v2_leaf.proofs.Leaves.{product-fits}
+use Rattle.checks.proofs.Nodes.{product-fits}
 use borrow.Author.Needs.{needs}
 use Rattle.btree_v2.proofs.collect.read_pointer.Statement.{statement}
 use Rattle.btree_v2.proofs.collect.read_pointer.Tie as tie
