@@ -2,7 +2,7 @@
 use mathlib.Core.Path.{_≡_, refl, _∙_}
 use mathlib.Core.Bool.{true}
 use mathlib.Core.List.{List, []}
-use Prim.Native.Nat.{ℕ, _+_, _-_, _*_, _^_, _≤_, _<_, min}
+use Prim.Native.Nat.{ℕ, _+_, _-_, _*_, _^_, _≤_, _<_}
 use native.Mathlib.Nat.{le-refl, mul-le-mul-right}
 use native.Mathlib.Omega.{arith}
 use lib.ListN.{length, getD}
@@ -11,7 +11,6 @@ use mir.Val.{Fits}
 use Rattle.fields.specs.Numbers.{fieldSize}
 use Rattle.fields.proofs.Numbers.{field-size-le}
 use Rattle.refusal.specs.Answer.{accepted}
-use Rattle.node_info.specs.Capacity.{countWidth}
 use Rattle.node_info.proofs.Capacities.{count-width-le}
 use Rattle.format.specs.Walk.{pointerWidth, pointerPlace, childAddress, childRecords}
 use Rattle.format.specs.Reading.{internalTest}
@@ -20,7 +19,7 @@ use Rattle.checks.specs.Verdicts.{verdictOf}
 use Rattle.btree_v2_internal.specs.declared.Sizes.{Sizes}
 use Rattle.btree_v2_internal.specs.declared.Node.{Node}
 use Rattle.btree_v2_internal.specs.Pointers.{sourceBy, pointerAt, addressAt, recordsAt}
-use Rattle.btree_v2_internal.proofs.Nodes.{internal-there}
+use Rattle.btree_v2_internal.proofs.Nodes.{internal-there, fields-walked}
 use Rattle.btree_v2.specs.declared.collect.TreeSizes.{TreeSizes}
 use Rattle.btree_v2.specs.Collecting.{sourceAt, sizesAbove, Readable}
 
@@ -32,14 +31,10 @@ unfolding sizesAbove
 sizes-are z l d readable = rw (readable .counts, readable .totals d (le-refl d))
 
 module _ (file : List ℕ) (z : TreeSizes) (x : Node) (d : ℕ) where
-  -- By its own sizes an internal node whose children have level d has the same tests, and its pointers the same places.
+  -- By its own sizes an internal node whose children have level d has the same tests.
   tests-same : internalTest (sourceBy file (sizesAbove z d)) 0 (x .address) (x .records) ≡ internalTest (sourceAt file z) d (x .address) (x .records)
   unfolding internalTest pointerWidth sourceBy sourceAt sizesAbove
   tests-same = refl
-
-  places-same : (i : ℕ) → pointerAt file (sizesAbove z d) x i ≡ pointerPlace (sourceAt file z) d (x .address) (x .records) i
-  unfolding pointerAt pointerPlace pointerWidth sourceBy sourceAt sizesAbove
-  places-same i = refl
 
   pub node-tested : (v : Verdict) (p : Sizes) → p ≡ sizesAbove z d
       → verdictOf v ≡ internalTest (sourceBy file p) 0 (x .address) (x .records)
@@ -57,11 +52,10 @@ module _ (file : List ℕ) (z : TreeSizes) (x : Node) (d : ℕ) where
         → (b .address ≡ addressAt file p x i) × (b .records ≡ recordsAt file p x i)
         → (b .address ≡ childAddress (sourceAt file z) (pointerPlace (sourceAt file z) d (x .address) (x .records) i))
         × (b .records ≡ childRecords (sourceAt file z) (pointerPlace (sourceAt file z) d (x .address) (x .records) i))
-    unfolding addressAt recordsAt childAddress childRecords sizesAbove sourceAt
+    unfolding childAddress childRecords pointerAt pointerPlace pointerWidth sourceBy sourceAt sizesAbove
     child-there p i b e told =
-        let ow : min (z .«offset_size») 8 ≡ z .«offset_size» = omega (arith, field-size-le (z .«offset_size») (all-there .2)) in
-        let cw : min (countWidth (z .«node_size») (z .«record_size»)) 8 ≡ countWidth (z .«node_size») (z .«record_size») = omega (arith, count-width-le (z .«node_size») (z .«record_size»)) in
-        (rw (told .0, e, ow, places-same), rw (told .1, e, cw, places-same))
+        let walked = fields-walked file (sizesAbove z d) x i (field-size-le _ (all-there .2)) (count-width-le _ _) in
+        (rw e at (told .0) ∙ walked .0, rw e at (told .1) ∙ walked .1)
 
     -- Record i.
     module _ (i : ℕ) (h : i < x .records) where

@@ -3,7 +3,7 @@ use mathlib.Core.Path.{_≡_, sym}
 use mathlib.Core.Bool.{Bool, true, false, not}
 use mathlib.Core.List.{List, [], _∷_}
 use Prim.Native.Nat.{ℕ, _+_, _-_, _*_, _%_, _^_, _≤_, _<_, min}
-use native.Mathlib.Nat.{mul-le-mul}
+use native.Mathlib.Nat.{mul-le-mul, min-eq-left}
 use native.Mathlib.Omega.{arith}
 use lib.ListN.{length}
 use mir.Syntax.{w64}
@@ -14,9 +14,9 @@ use Rattle.fields.proofs.Copying.{part-held}
 use Rattle.fields.proofs.Lists.{length-part}
 use Rattle.fields.proofs.Numbers.{held-add}
 use Rattle.refusal.specs.declared.Refusal.{Refusal}
-use Rattle.refusal.specs.Answer.{Answer, accepted, refused}
+use Rattle.refusal.specs.Answer.{Answer, accepted, refused, orElse}
 use Rattle.format.specs.Bytes.{internalSignature}
-use Rattle.format.specs.Walk.{Source, needs, pointerWidth, pointerPlace}
+use Rattle.format.specs.Walk.{Source, needs, pointerWidth, pointerPlace, childAddress, childRecords}
 use Rattle.format.specs.Reading.{same, internalTest}
 use Rattle.format.proofs.Passing.{passed, there}
 use Rattle.checks.specs.declared.Verdict.{Verdict}
@@ -105,15 +105,15 @@ module _ (file : List ℕ) (z : Sizes) (x : Node) where
               pointers-in : 6 + rowBytes + (x .records + 1) * w ≤ length file - x .address
               pointers-in = rw (← part-length) (bytes-there _ _ pointers listed all)
 
-              pub internal-fine : s ≡ true → accepted [] ≡ answer
+              sized : answer ≡ orElse s (refused 4 (z .«offset_size» ∷ [])) (accepted [])
               unfolding internalTest pointerWidth sourceBy
-              internal-fine h =
-                  rw (le-leb _ _ begins, test-holds t _ is signed, le-leb _ _ rows-in, ← wide .0, le-leb _ _ pointers-in, ← size, h)
+              sized = rw (le-leb _ _ begins, test-holds t _ is signed, le-leb _ _ rows-in, ← wide .0, le-leb _ _ pointers-in, ← size)
+
+              pub internal-fine : s ≡ true → accepted [] ≡ answer
+              internal-fine h = rw (sized, h)
 
               pub internal-size : s ≡ false → refused 4 (z .«offset_size» ∷ []) ≡ answer
-              unfolding internalTest pointerWidth sourceBy
-              internal-size h =
-                  rw (le-leb _ _ begins, test-holds t _ is signed, le-leb _ _ rows-in, ← wide .0, le-leb _ _ pointers-in, ← size, h)
+              internal-size h = rw (sized, h)
 
   -- `read_pointer`: the fields of pointer i. No file reaches a place that is held.
   at-held : (p k : ℕ) → length file < 2 ^ 64 → num file (held p) k ≡ num file p k
@@ -131,3 +131,10 @@ module _ (file : List ℕ) (z : Sizes) (x : Node) where
     unfolding addressAt recordsAt
     pointer-is at next a n small hat hnext ha hn =
         (rw (ha, hat, at-held _ _ small, place), rw (hn, hnext, hat, held-add, at-held _ _ small, place))
+
+  -- Where no field has more than 8 bytes, these are the address and the count of a walk.
+  pub fields-walked : (i : ℕ) → z .«offset_size» ≤ 8 → z .«count_size» ≤ 8
+      → (addressAt file z x i ≡ childAddress (sourceBy file z) (pointerAt file z x i))
+      × (recordsAt file z x i ≡ childRecords (sourceBy file z) (pointerAt file z x i))
+  unfolding addressAt recordsAt childAddress childRecords sourceBy
+  fields-walked i address count = (rw (min-eq-left address), rw (min-eq-left count))
