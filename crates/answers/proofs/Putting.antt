@@ -12,11 +12,11 @@ use borrow.Author.Fill.{fill-none, fill-more}
 use Rattle.fields.specs.Places.{stored}
 use Rattle.fields.proofs.Lists.{stored-nil, stored-snoc, stored-append, stored-whole}
 use Rattle.refusal.specs.declared.Refusal.{Refusal}
-use Rattle.refusal.specs.Answer.{Answer, accepted, refusalOf, cells}
+use Rattle.refusal.specs.Answer.{Answer, accepted, refusalOf, cells, verdictOf}
 use Rattle.refusal.proofs.Answers.{length-cells, cells-accepted, cells-more}
 use Rattle.node_info.specs.declared.NodeInfo.{NodeInfo}
-use Rattle.node_info.specs.declared.Verdict.{Verdict}
-use Rattle.node_info.specs.declared.Verdict.the-variants.{Accepted}
+use Rattle.refusal.specs.declared.Verdict.{Verdict}
+use Rattle.refusal.specs.declared.Verdict.the-variants.{Accepted}
 use Rattle.node_info.specs.Table.{tableAnswer}
 use Rattle.plan.specs.declared.BTreeV2Plan.{BTreeV2Plan}
 use Rattle.plan.specs.declared.PlanAnswer.{PlanAnswer}
@@ -26,9 +26,6 @@ use Rattle.btree_v2_header.specs.declared.BTreeV2Header.{BTreeV2Header}
 use Rattle.btree_v2_header.specs.declared.HeaderAnswer.{HeaderAnswer}
 use Rattle.btree_v2_header.specs.declared.HeaderAnswer.the-variants.{Parsed}
 use Rattle.btree_v2.specs.declared.Collected.{Collected}
-use Rattle.checks.specs.declared.Verdict as btree
-use Rattle.checks.specs.declared.Verdict.the-variants as verdict
-use Rattle.checks.specs.Verdicts.{verdictOf}
 use Rattle.btree_v2_header.specs.Answers.{headerAnswerOf}
 use Rattle.btree_v2.specs.Answers.{collectedCells}
 
@@ -104,23 +101,10 @@ pub header-put : {p : HeaderAnswer} {h : BTreeV2Header} → p ≡ Parsed h
 unfolding cells
 header-put e = rw e
 
--- A verdict that accepts.
-pub verdict-put : (v : btree.Verdict) → v ≡ verdict.Accepted → 0 ∷ 0 ∷ 0 ∷ [] ≡ cells 3 (verdictOf v)
-unfolding cells
-verdict-put v e = rw e
-
 -- What was collected: number and values, and the counts.
-module _ (r : Collected) where
-  abbrev Counted : ℕ → ℕ → ℕ → List ℕ
-  Counted n x y = n ∷ x ∷ y ∷ r .tally .records ∷ r .tally .leaves ∷ r .tally .internals ∷ r .tally .inner ∷ []
-
-  pub accepted-put : r .verdict ≡ verdict.Accepted → Counted 0 0 0 ≡ collectedCells r
-  unfolding cells
-  accepted-put e = rw e
-
-  pub stopped-put : (cause : Refusal) {n x y : ℕ} → r .verdict ≡ verdict.Refused cause
-      → n ∷ x ∷ y ∷ [] ≡ cells 3 (refusalOf cause) → Counted n x y ≡ collectedCells r
-  stopped-put cause e told = rw (e, ← told)
+pub collected-put : (r : Collected) {n x y : ℕ} → n ∷ x ∷ y ∷ [] ≡ cells 3 (verdictOf (r .verdict))
+    → n ∷ x ∷ y ∷ r .tally .records ∷ r .tally .leaves ∷ r .tally .internals ∷ r .tally .inner ∷ [] ≡ collectedCells r
+collected-put r told = rw (← told)
 
 -- The table's columns, each right after the one before.
 two : (a : List ℕ) (x y : ℕ) → 2 ≤ length a → set (set a 0 x) 1 y ≡ stored a 0 (x ∷ y ∷ [])

@@ -5,18 +5,17 @@ ghost use mathlib.Core.Path.{_≡_};
 ghost use Prim.Native.Nat.{_+_, _≤_};
 ghost use lib.ListN.{length, replicate};
 ghost use Rattle.fields.specs.Places.{stored};
-ghost use Rattle.refusal.specs.Answer.{refusalOf, cells};
+ghost use Rattle.refusal.specs.Answer.{refusalOf, cells, verdictOf};
 ghost use Rattle.node_info.specs.Table.{tableAnswer};
 ghost use Rattle.plan.specs.Planned.{planAnswerOf};
-ghost use Rattle.checks.specs.Verdicts.{verdictOf};
 ghost use Rattle.btree_v2_header.specs.Answers.{headerAnswerOf};
 ghost use Rattle.btree_v2.specs.Answers.{collectedCells};
 use btree_v2::Collected;
 use btree_v2_header::HeaderAnswer;
 use node_info::NodeInfoAnswer;
-use node_info::Verdict;
 use plan::PlanAnswer;
 use refusal::Refusal;
+use refusal::Verdict;
 
 // Zeros.
 fn clear(numbers: &mut [u64])
@@ -127,42 +126,23 @@ pub fn put_collected(answer: &mut [u64; 7], collected: Collected)
     ensures { λ _. ⌜ now (answer .exit) ≡ collectedCells collected ⌝ }
 {
     let verdict = collected.verdict;
+    let told = verdict.told();
     let tally = collected.tally;
-    match verdict {
-        checks::Verdict::Accepted => {
-            *answer = [
-                0,
-                0,
-                0,
-                tally.records,
-                tally.leaves,
-                tally.internals,
-                tally.inner,
-            ];
-        }
-        checks::Verdict::Refused(cause) => {
-            let told = cause.told();
-            *answer = [
-                told.number,
-                told.first,
-                told.second,
-                tally.records,
-                tally.leaves,
-                tally.internals,
-                tally.inner,
-            ];
-        }
-    }
+    *answer = [
+        told.number,
+        told.first,
+        told.second,
+        tally.records,
+        tally.leaves,
+        tally.internals,
+        tally.inner,
+    ];
 }
 
 // The refusal's number and values, zeros where there is none.
-pub fn put_verdict(answer: &mut [u64; 3], verdict: checks::Verdict)
+pub fn put_verdict(answer: &mut [u64; 3], verdict: Verdict)
     ensures { λ _. ⌜ now (answer .exit) ≡ cells 3 (verdictOf verdict) ⌝ }
 {
-    match verdict {
-        checks::Verdict::Accepted => {
-            *answer = [0, 0, 0];
-        }
-        checks::Verdict::Refused(cause) => put_refusal(answer, cause),
-    }
+    let told = verdict.told();
+    *answer = [told.number, told.first, told.second];
 }

@@ -9,7 +9,7 @@ use borrow.Author.Tests.{le-leb}
 use Rattle.fields.specs.Numbers.{pick}
 use Rattle.fields.proofs.Numbers.{held-small}
 use Rattle.refusal.specs.declared.Refusal.the-variants.{ZeroRecordSize, DepthAboveLimit}
-use Rattle.refusal.specs.Answer.{cells}
+use Rattle.refusal.specs.Answer.{cells, verdictOf}
 use Rattle.refusal.proofs.Answers.{refused-is}
 use Rattle.node_info.specs.declared.NodeInfo.{NodeInfo}
 use Rattle.node_info.specs.Table.{infoAt, noInfo}
@@ -18,13 +18,12 @@ use Rattle.format.specs.Walk.{Run, fine, stopped, noCounts, nodeRun}
 use Rattle.format.specs.Reading.{collected, sourceOf, collectTests, countCells, runCells, runOutput}
 use Rattle.format.proofs.Outcomes.{collected-none, collected-root-none, collected-8, collected-16, collected-walk}
 use Rattle.btree_v2_header.specs.declared.BTreeV2Header.{BTreeV2Header}
-use Rattle.checks.specs.declared.Verdict.{Verdict}
-use Rattle.checks.specs.declared.Verdict.the-variants.{Accepted, Refused}
+use Rattle.refusal.specs.declared.Verdict.{Verdict}
+use Rattle.refusal.specs.declared.Verdict.the-variants.{Accepted, Refused}
 use Rattle.btree_v2.specs.declared.Tally.{Tally}
 use Rattle.btree_v2.specs.declared.Collected.{Collected}
 use Rattle.btree_v2.specs.declared.collect.TreeSizes.{TreeSizes}
 use Rattle.btree_v2_internal.specs.declared.Node.{Node}
-use Rattle.checks.specs.Verdicts.{verdictOf}
 use Rattle.btree_v2_header.specs.Answers.{fieldsOf}
 use Rattle.btree_v2.specs.Answers.{collectedCells}
 use Rattle.btree_v2.specs.Collecting.{countsOf, runOf, heldRun, sourceAt, Readable, Within, Walked, nodeWalk}

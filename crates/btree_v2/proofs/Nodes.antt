@@ -10,12 +10,11 @@ use mir.Syntax.{w64}
 use mir.Val.{Fits}
 use Rattle.fields.specs.Numbers.{fieldSize}
 use Rattle.fields.proofs.Numbers.{field-size-le}
-use Rattle.refusal.specs.Answer.{accepted}
+use Rattle.refusal.specs.Answer.{accepted, verdictOf}
 use Rattle.node_info.proofs.Capacities.{count-width-le}
 use Rattle.format.specs.Walk.{pointerWidth, pointerPlace, childAddress, childRecords}
 use Rattle.format.specs.Reading.{internalTest}
-use Rattle.checks.specs.declared.Verdict.{Verdict}
-use Rattle.checks.specs.Verdicts.{verdictOf}
+use Rattle.refusal.specs.declared.Verdict.{Verdict}
 use Rattle.btree_v2_internal.specs.declared.Sizes.{Sizes}
 use Rattle.btree_v2_internal.specs.declared.Node.{Node}
 use Rattle.btree_v2_internal.specs.Pointers.{sourceBy, pointerAt, addressAt, recordsAt}

@@ -15,7 +15,7 @@ use Rattle.format.specs.Walk.{fine, oneLeaf, oneInternal, oneInner, putRecords}
 use Rattle.format.proofs.Outcomes.{put-some}
 use Rattle.format.proofs.Puts.{puts-records}
 use Rattle.refusal.specs.declared.Refusal.the-variants.{OutputTooShort}
-use Rattle.checks.specs.declared.Verdict.the-variants.{Accepted, Refused}
+use Rattle.refusal.specs.declared.Verdict.the-variants.{Accepted, Refused}
 use Rattle.btree_v2.specs.declared.Tally.{Tally}
 use Rattle.btree_v2.specs.declared.collect.TreeSizes.{TreeSizes}
 use Rattle.btree_v2.specs.Collecting.{countsOf, heldCounts, sourceAt, Within, Walked}

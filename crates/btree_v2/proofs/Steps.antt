@@ -6,16 +6,15 @@ use native.Mathlib.Nat.{zero-add}
 use native.Mathlib.Omega.{arith}
 use lib.ListN.{length}
 use Rattle.refusal.specs.declared.Refusal.{Refusal}
-use Rattle.refusal.specs.Answer.{Answer, accepted}
+use Rattle.refusal.specs.Answer.{Answer, accepted, verdictOf}
 use Rattle.format.specs.Walk.{Counts, Run, fine, stopped, andThen, ifPassed, oneLeaf, oneInternal, oneInner, Source, Tests, putRecord, putRecords, pointerPlace, childAddress, childRecords, leafRun, childRun, innerRun, childrenRun, nodeRun}
 use Rattle.format.specs.Reading.{leafTest, internalTest, collectTests}
-use Rattle.checks.specs.declared.Verdict.{Verdict}
-use Rattle.checks.specs.declared.Verdict.the-variants.{Accepted, Refused}
+use Rattle.refusal.specs.declared.Verdict.{Verdict}
+use Rattle.refusal.specs.declared.Verdict.the-variants.{Accepted, Refused}
 use Rattle.btree_v2.specs.declared.Tally.{Tally}
 use Rattle.btree_v2.specs.declared.Collected.{Collected}
 use Rattle.btree_v2.specs.declared.collect.TreeSizes.{TreeSizes}
 use Rattle.btree_v2_internal.specs.declared.Node.{Node}
-use Rattle.checks.specs.Verdicts.{verdictOf}
 use Rattle.btree_v2.specs.Collecting.{countsOf, runOf, heldCounts, heldRun, sourceAt, testsAt, Readable, Within, Walked, nodeWalk, childWalk, innerWalk, childStep}
 use Rattle.refusal.proofs.Answers.{refused-is}
 use Rattle.btree_v2.proofs.Holding.{Alike, from-held, records-held, alike-after, fine-alike, count-alike, puts-alike, inner-alike, children-alike, node-alike}

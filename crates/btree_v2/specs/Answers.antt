@@ -1,8 +1,7 @@
 -- What collecting's answer says, in the terms of the format's definitions.
 use Prim.Native.Nat.{ℕ}
 use mathlib.Core.List.{List, [], _∷_, _++_}
-use Rattle.refusal.specs.Answer.{cells}
-use Rattle.checks.specs.Verdicts.{verdictOf}
+use Rattle.refusal.specs.Answer.{cells, verdictOf}
 use Rattle.btree_v2.specs.declared.Collected.{Collected}
 
 -- Collecting's answer as numbers: number and two values, and the four counts.

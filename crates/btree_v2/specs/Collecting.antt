@@ -8,7 +8,7 @@ use Rattle.fields.specs.Numbers.{held}
 use Rattle.node_info.specs.Capacity.{countWidth, totalWidth}
 use Rattle.format.specs.Walk.{Counts, Run, fine, stopped, andThen, ifPassed, Source, Tests, childRun, innerRun, nodeRun}
 use Rattle.format.specs.Reading.{collectTests}
-use Rattle.checks.specs.Verdicts.{verdictOf}
+use Rattle.refusal.specs.Answer.{verdictOf}
 use Rattle.btree_v2.specs.declared.Tally.{Tally}
 use Rattle.btree_v2.specs.declared.Collected.{Collected}
 use Rattle.btree_v2.specs.declared.collect.TreeSizes.{TreeSizes}

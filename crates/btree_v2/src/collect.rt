@@ -4,10 +4,9 @@ ghost use mathlib.Core.Path.{_≡_};
 ghost use mathlib.Core.List.{[]};
 ghost use Prim.Native.Nat.{ℕ, _+_, _-_, _*_, _^_, _≤_, _<_};
 ghost use lib.ListN.{length};
-ghost use Rattle.refusal.specs.Answer.{accepted};
+ghost use Rattle.refusal.specs.Answer.{accepted, verdictOf};
 ghost use Rattle.format.specs.Walk.{oneLeaf, oneInternal, oneInner, putRecords, pointerPlace, childAddress, childRecords};
 ghost use Rattle.format.specs.Reading.{internalTest, collected, runCells, runOutput};
-ghost use Rattle.checks.specs.Verdicts.{verdictOf};
 ghost use Rattle.btree_v2_header.specs.Answers.{fieldsOf};
 ghost use Rattle.btree_v2.specs.Answers.{collectedCells};
 ghost use Rattle.btree_v2.specs.Collecting.{countsOf, heldCounts, sourceAt, Readable, Within, Walked, sizesAbove, nodeWalk, innerWalk, childStep};
@@ -16,9 +15,9 @@ use crate::Tally;
 use btree_v2_header::BTreeV2Header;
 use btree_v2_internal::Node;
 use btree_v2_internal::Sizes;
-use checks::Verdict;
 use node_info::NodeInfo;
 use refusal::Refusal;
+use refusal::Verdict;
 
 // Sizes in bytes of a tree; those of subtrees' totals stand in a table beside them, by the level of the subtree's root.
 struct TreeSizes {

@@ -1,7 +1,7 @@
 // Collecting the records of a version 2 B-tree.
 
 ghost use mathlib.Core.Path.{_≡_};
-use checks::Verdict;
+use refusal::Verdict;
 
 pub mod collect;
 

@@ -2,23 +2,22 @@
 use mathlib.Core.Path.{_≡_}
 use mathlib.Core.Bool.{true, false}
 use mathlib.Core.List.{List, [], _∷_}
-use Prim.Native.Nat.{ℕ, _+_, _^_, _≤_, _<_, min}
+use Prim.Native.Nat.{ℕ, _+_, _*_, _^_, _≤_, _<_, min}
 use native.Mathlib.Omega.{arith}
 use lib.ListN.{length, getD}
-use mir.Syntax.{w16, w32, w64}
+use mir.Syntax.{w64}
 use mir.Val.{Fits}
 use borrow.Author.Tests.{le-leb, ne-eqb}
 use Rattle.fields.specs.Numbers.{part, num, unle, fieldSize}
 use Rattle.fields.proofs.Lists.{part-cons}
-use Rattle.fields.proofs.Numbers.{num-lt, field-size-le}
+use Rattle.fields.proofs.Numbers.{num-add, field-size-le}
 use Rattle.refusal.specs.declared.Refusal.{Refusal}
-use Rattle.refusal.specs.Answer.{Answer, accepted, refused, refusalOf, orElse}
+use Rattle.refusal.specs.Answer.{Answer, accepted, refused, refusalOf, orElse, verdictOf}
 use Rattle.format.specs.Bytes.{headerSignature}
 use Rattle.format.specs.Walk.{needs}
 use Rattle.format.specs.Reading.{same, Header, headerFigures, headerAt, checksumTest, parsed}
-use Rattle.checks.specs.declared.Verdict.{Verdict}
-use Rattle.checks.specs.declared.Verdict.the-variants.{Accepted, Refused}
-use Rattle.checks.specs.Verdicts.{verdictOf}
+use Rattle.refusal.specs.declared.Verdict.{Verdict}
+use Rattle.refusal.specs.declared.Verdict.the-variants.{Accepted, Refused}
 use Rattle.btree_v2_header.specs.Parsing.{Begun}
 use Rattle.checks.proofs.Checks.{bytes-missing, sum-right, sum-wrong}
 
@@ -26,6 +25,14 @@ use Rattle.checks.proofs.Checks.{bytes-missing, sum-right, sum-wrong}
 num-1 : (l : List ℕ) (p : ℕ) → p < length l → num l p 1 ≡ getD l p 0
 unfolding num unle
 num-1 l p h = rw (part-cons l p 0 0 h) (omega arith)
+
+-- `read_u16` and `read_u32`: in two bytes, and in twice two.
+pub num-2 : (l : List ℕ) (p : ℕ) → p + 2 ≤ length l → getD l p 0 + 256 * getD l (p + 1) 0 ≡ num l p 2
+unfolding num unle
+num-2 l p h = rw (part-cons l p 1 0 (omega arith), part-cons l (p + 1) 0 0 (omega arith)) (omega arith)
+
+pub num-4 : (l : List ℕ) (p x y : ℕ) → p + 4 ≤ length l → x ≡ num l p 2 → y ≡ num l (p + 2) 2 → x + 65536 * y ≡ num l p 4
+num-4 l p x y h a b = rw (num-add l p 2 2 (omega arith), a, b)
 
 -- Where the tests up to that of the offset size have passed.
 pub begun : (file : List ℕ) (o ow : ℕ) → o + 16 ≤ length file → same (part file o 4) headerSignature ≡ true
@@ -140,18 +147,10 @@ module _ (len o k : ℕ) (h : o + 16 ≤ len) (l : k < 16) where
   pub byte-fits : len < 2 ^ 64 → Fits w64 (o + k)
   byte-fits s = omega arith
 
--- A number in two bytes, and in four.
-module _ (l : List ℕ) (p x : ℕ) (known : (i : ℕ) → getD l i 0 < 256) where
-  pub two-fit : x ≡ num l p (min 2 8) → Fits w16 x
-  two-fit e = omega (arith, e, num-lt l p 2 known)
-
-  pub four-fit : x ≡ num l p (min 4 8) → Fits w32 x
-  four-fit e = omega (arith, e, num-lt l p 4 known)
-
 -- The fields, as they are read.
-pub fields-are : (file : List ℕ) (o ow lw a b c d e f : ℕ) → o + 18 + ow + lw ≤ length file → fieldSize ow ≡ true → fieldSize lw ≡ true → a ≡ num file (o + 6) (min 4 8)
-    → b ≡ num file (o + 10) (min 2 8) → c ≡ num file (o + 12) (min 2 8) → d ≡ num file (o + 16) (min ow 8)
-    → e ≡ num file (o + 16 + ow) (min 2 8) → f ≡ num file (o + 18 + ow) (min lw 8)
+pub fields-are : (file : List ℕ) (o ow lw a b c d e f : ℕ) → o + 18 + ow + lw ≤ length file → fieldSize ow ≡ true → fieldSize lw ≡ true → a ≡ num file (o + 6) 4
+    → b ≡ num file (o + 10) 2 → c ≡ num file (o + 12) 2 → d ≡ num file (o + 16) (min ow 8)
+    → e ≡ num file (o + 16 + ow) 2 → f ≡ num file (o + 18 + ow) (min lw 8)
     → _≡_ {A = Header} (record { treeType = getD file (o + 5) 0; ns = a; rs = b; depth = c; root = d; rootRecords = e; records = f }) (headerAt file o ow lw)
 unfolding headerAt
 fields-are file o ow lw a b c d e f h s l ha hb hc hd he hf =

@@ -4,12 +4,12 @@ ghost use mathlib.Core.Path.{_≡_};
 ghost use mathlib.Core.Bool.{true};
 ghost use Prim.Native.Nat.{_+_, _≤_};
 ghost use lib.ListN.{length};
-ghost use Rattle.fields.specs.Numbers.{fieldSize};
+ghost use Rattle.fields.specs.Numbers.{num, fieldSize};
 ghost use Rattle.format.specs.Reading.{headerAt, parsed};
 ghost use Rattle.btree_v2_header.specs.Answers.{fieldsOf, headerAnswerOf};
 ghost use Rattle.btree_v2_header.specs.Parsing.{Begun};
-use checks::Verdict;
 use refusal::Refusal;
+use refusal::Verdict;
 
 // The header, as it stands in a file.
 pub struct BTreeV2Header {
@@ -94,11 +94,27 @@ fn fields_at(file: &[u8], at: usize, offset_size: u8, length_size: u8) -> BTreeV
     let total_width = length_size as usize;
     BTreeV2Header {
         tree_type: file[at + 5],
-        node_size: fields::read_le(file, at + 6, 4) as u32,
-        record_size: fields::read_le(file, at + 10, 2) as u16,
-        depth: fields::read_le(file, at + 12, 2) as u16,
+        node_size: read_u32(file, at + 6),
+        record_size: read_u16(file, at + 10),
+        depth: read_u16(file, at + 12),
         root_node_address: fields::read_le(file, at + 16, root_width),
-        num_records_in_root: fields::read_le(file, at + 16 + root_width, 2) as u16,
+        num_records_in_root: read_u16(file, at + 16 + root_width),
         total_records: fields::read_le(file, at + 18 + root_width, total_width),
     }
+}
+
+// The number in the two bytes at `at`.
+fn read_u16(file: &[u8], at: usize) -> u16
+    requires { ⌜ at + 2 ≤ length (now file) ⌝ }
+    ensures { λ r. ⌜ r ≡ num (now (file .entry)) at 2 ⌝ }
+{
+    file[at] as u16 + 256 * (file[at + 1] as u16)
+}
+
+// The number in the four bytes at `at`.
+fn read_u32(file: &[u8], at: usize) -> u32
+    requires { ⌜ at + 4 ≤ length (now file) ⌝ }
+    ensures { λ r. ⌜ r ≡ num (now (file .entry)) at 4 ⌝ }
+{
+    read_u16(file, at) as u32 + 65536 * (read_u16(file, at + 2) as u32)
 }

@@ -14,14 +14,13 @@ use Rattle.fields.proofs.Copying.{part-held}
 use Rattle.fields.proofs.Lists.{length-part}
 use Rattle.fields.proofs.Numbers.{held-add}
 use Rattle.refusal.specs.declared.Refusal.{Refusal}
-use Rattle.refusal.specs.Answer.{Answer, accepted, refused, orElse}
+use Rattle.refusal.specs.Answer.{Answer, accepted, refused, orElse, verdictOf}
 use Rattle.format.specs.Bytes.{internalSignature}
 use Rattle.format.specs.Walk.{Source, needs, pointerWidth, pointerPlace, childAddress, childRecords}
 use Rattle.format.specs.Reading.{same, internalTest}
 use Rattle.format.proofs.Passing.{passed, there}
-use Rattle.checks.specs.declared.Verdict.{Verdict}
-use Rattle.checks.specs.declared.Verdict.the-variants.{Accepted, Refused}
-use Rattle.checks.specs.Verdicts.{verdictOf}
+use Rattle.refusal.specs.declared.Verdict.{Verdict}
+use Rattle.refusal.specs.declared.Verdict.the-variants.{Accepted, Refused}
 use Rattle.checks.proofs.Checks.{bytes-there, bytes-missing, test-holds, test-fails}
 use Rattle.checks.proofs.Nodes.{product-small, front-there}
 use Rattle.btree_v2_internal.specs.declared.Sizes.{Sizes}

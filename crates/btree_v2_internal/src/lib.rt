@@ -2,11 +2,11 @@
 
 ghost use mathlib.Core.Path.{_≡_};
 ghost use Prim.Native.Nat.{_+_, _<_};
+ghost use Rattle.refusal.specs.Answer.{verdictOf};
 ghost use Rattle.format.specs.Reading.{internalTest};
-ghost use Rattle.checks.specs.Verdicts.{verdictOf};
 ghost use Rattle.btree_v2_internal.specs.Pointers.{sourceBy, addressAt, recordsAt};
-use checks::Verdict;
 use refusal::Refusal;
+use refusal::Verdict;
 
 // Sizes in bytes: of a record, and of the three fields of a pointer to a child.
 pub struct Sizes {

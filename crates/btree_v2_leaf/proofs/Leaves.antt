@@ -11,16 +11,15 @@ use borrow.Author.Tests.{le-leb, lt-leb, lt-ltb, le-ltb}
 use Rattle.fields.specs.Numbers.{held, part}
 use Rattle.fields.proofs.Copying.{part-held}
 use Rattle.refusal.specs.declared.Refusal.{Refusal}
-use Rattle.refusal.specs.Answer.{accepted, refused}
+use Rattle.refusal.specs.Answer.{accepted, refused, verdictOf}
 use Rattle.refusal.proofs.Answers.{refused-is}
 use Rattle.format.specs.Bytes.{leafSignature}
 use Rattle.format.specs.Walk.{needs}
 use Rattle.format.specs.Reading.{same, checksumTest, leafTest}
 use Rattle.format.specs.Look.{lookTest, bytesIf, lookBytes, recordOf}
 use Rattle.format.proofs.Looking as look
-use Rattle.checks.specs.declared.Verdict.{Verdict}
-use Rattle.checks.specs.declared.Verdict.the-variants.{Accepted, Refused}
-use Rattle.checks.specs.Verdicts.{verdictOf}
+use Rattle.refusal.specs.declared.Verdict.{Verdict}
+use Rattle.refusal.specs.declared.Verdict.the-variants.{Accepted, Refused}
 use Rattle.checks.proofs.Checks.{bytes-there, bytes-missing, test-holds, test-fails}
 use Rattle.checks.proofs.Nodes.{product-fits, front-there}
 

@@ -4,9 +4,9 @@
 ghost use mathlib.Core.Path.{_≡_};
 ghost use Rattle.format.specs.Reading.{leafTest};
 ghost use Rattle.format.specs.Look.{lookTest, bytesIf, lookBytes, recordOf};
-ghost use Rattle.checks.specs.Verdicts.{verdictOf};
-use checks::Verdict;
+ghost use Rattle.refusal.specs.Answer.{verdictOf};
 use refusal::Refusal;
+use refusal::Verdict;
 
 // Document 01's borrowed look at one leaf's bytes.
 pub struct LeafView<'a> {

@@ -7,13 +7,12 @@ use native.Mathlib.Nat.{zero-add}
 use lib.ListN.{length}
 use Rattle.fields.specs.Places.{put}
 use Rattle.fields.proofs.Lists.{put-fits}
-use Rattle.refusal.specs.Answer.{accepted, refused, cells}
+use Rattle.refusal.specs.Answer.{accepted, refused, cells, verdictOf}
 use Rattle.refusal.proofs.Answers.{refused-is}
 use Rattle.format.specs.Look.{lookTest, lookBytes, recordOf, recordAnswer, recordExit}
 use Rattle.format.proofs.Looking.{record-none, record-refused, record-short, record-copied}
-use Rattle.checks.specs.declared.Verdict.{Verdict}
-use Rattle.checks.specs.declared.Verdict.the-variants.{Accepted, Refused}
-use Rattle.checks.specs.Verdicts.{verdictOf}
+use Rattle.refusal.specs.declared.Verdict.{Verdict}
+use Rattle.refusal.specs.declared.Verdict.the-variants.{Accepted, Refused}
 
 module _ (file : List ℕ) (rs a n i : ℕ) (out r : List ℕ) (got : r ≡ recordOf (lookBytes file rs a n) rs n i) where
   -- The array and the output at exit are those of the definition.

@@ -11,10 +11,10 @@ ghost use Rattle.format.specs.Look.{recordAnswer, recordExit};
 ghost use Rattle.btree_v2_write.specs.Call.{asked};
 ghost use Rattle.capi.specs.Given.{given};
 use btree_v2_header::BTreeV2Header;
-use checks::Verdict;
 use node_info::NodeInfo;
 use plan::BTreeV2Plan;
 use refusal::Refusal;
+use refusal::Verdict;
 
 // The capacity table up to a depth: width of a record count, and for the levels 0 to 32 the records of a node, then those of a subtree,
 // then the width of a subtree's total.

@@ -15,14 +15,13 @@ use Rattle.fields.specs.Numbers.{part, num, held}
 use Rattle.fields.proofs.Lists.{part-cons}
 use Rattle.fields.proofs.Numbers.{num-lt}
 use Rattle.refusal.specs.declared.Refusal.{Refusal}
-use Rattle.refusal.specs.Answer.{Answer, accepted, refused, refusalOf, orElse}
+use Rattle.refusal.specs.Answer.{Answer, accepted, refused, refusalOf, orElse, verdictOf}
 use Rattle.refusal.proofs.Answers.{refused-is}
 use Rattle.format.specs.Walk.{needs}
 use Rattle.format.specs.Reading.{same, checksumTest}
 use Rattle.format.proofs.Outcomes.{same-false, checksum-equal, checksum-differs}
-use Rattle.checks.specs.declared.Verdict.{Verdict}
-use Rattle.checks.specs.declared.Verdict.the-variants.{Accepted, Refused}
-use Rattle.checks.specs.Verdicts.{verdictOf}
+use Rattle.refusal.specs.declared.Verdict.{Verdict}
+use Rattle.refusal.specs.declared.Verdict.the-variants.{Accepted, Refused}
 
 -- What the verdict of a test tells of the test.
 module _ (v : Verdict) (t : Bool) (number : ℕ) (values : List ℕ)

@@ -7,11 +7,10 @@ use native.Mathlib.Omega.{arith}
 use lib.ListN.{length}
 use mir.Syntax.{w64}
 use mir.Val.{Fits}
-use Rattle.refusal.specs.Answer.{accepted}
+use Rattle.refusal.specs.Answer.{accepted, verdictOf}
 use Rattle.format.specs.Walk.{needs}
-use Rattle.checks.specs.declared.Verdict.{Verdict}
-use Rattle.checks.specs.declared.Verdict.the-variants.{Accepted}
-use Rattle.checks.specs.Verdicts.{verdictOf}
+use Rattle.refusal.specs.declared.Verdict.{Verdict}
+use Rattle.refusal.specs.declared.Verdict.the-variants.{Accepted}
 use Rattle.checks.proofs.Checks.{bytes-there}
 
 -- Numbers of 16 bits: their product.

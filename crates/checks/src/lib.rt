@@ -5,16 +5,11 @@ ghost use mathlib.Core.List.{[], _∷_};
 ghost use Prim.Native.Nat.{_+_, _-_};
 ghost use lib.ListN.{length};
 ghost use Rattle.fields.specs.Numbers.{part};
-ghost use Rattle.refusal.specs.Answer.{accepted};
+ghost use Rattle.refusal.specs.Answer.{accepted, verdictOf};
 ghost use Rattle.format.specs.Walk.{needs};
 ghost use Rattle.format.specs.Reading.{same, checksumTest};
-ghost use Rattle.checks.specs.Verdicts.{verdictOf};
 use refusal::Refusal;
-
-pub enum Verdict {
-    Accepted,
-    Refused(Refusal),
-}
+use refusal::Verdict;
 
 // Refusal 1 where fewer than `count` bytes are there from `at` on.
 pub fn ensure_len(data: &[u8], at: u64, count: u64) -> Verdict

@@ -44,8 +44,12 @@ pub fn read_le(data: &[u8], at: usize, width: usize) -> u64
     if data.len() <= at {
         return 0;
     }
-    let n = smaller(smaller(width, 8), data.len() - at);
-    read_bytes(&data[at..], n)
+    let rest = &data[at..];
+    let n = smaller(width, 8);
+    if rest.len() < n {
+        return read_bytes(rest, rest.len());
+    }
+    read_bytes(rest, n)
 }
 
 // The smaller of two numbers.

@@ -14,10 +14,10 @@ use Rattle.fields.specs.Places.{stored}
 use Rattle.fields.proofs.Lists.{length-part, part-part, part-past, stored-is}
 use Rattle.refusal.specs.Answer.{Answer, accepted, refused}
 use Rattle.format.specs.Bytes.{leafSignature}
-use Rattle.format.specs.Walk.{Counts, Run, fine, stopped, andThen, oneLeaf, Source, putRecord, putRecords, leafRun}
+use Rattle.format.specs.Walk.{Counts, Run, fine, stopped, andThen, oneLeaf, Source, putBytes, putRecord, putRecords, leafRun}
 use Rattle.format.specs.Writing.{over}
 use Rattle.format.specs.Reading.{same, leafTest, collectTests}
-use Rattle.format.specs.Look.{lookTest, lookBytes, recordOf, putBytes, putEach, recordAnswer, recordExit}
+use Rattle.format.specs.Look.{lookTest, lookBytes, recordOf, putEach, recordAnswer, recordExit}
 use Rattle.format.proofs.Passing.{passed, there}
 
 -- Record i below the count, and from the count on.
@@ -97,7 +97,7 @@ module _ (s : Source) (a n : ℕ) where
 
   module _ (figures : List ℕ) (e : lookTest (s .file) (s .rs) a n ≡ accepted figures) where
     one : (i : ℕ) → i < n → (c : Counts) (o : List ℕ) → putRecord s (a + 6 + i * s .rs) c o ≡ putBytes (s .rs) (hand i) c o
-    unfolding putRecord putBytes
+    unfolding putRecord
     one i h c o = rw (look-record (s .file) (s .rs) a n figures e i h)
 
     each : (m i : ℕ) → i + m ≡ n → (c : Counts) (o : List ℕ) → putRecords s m (a + 6 + i * s .rs) c o ≡ putEach (s .rs) hand m i c o

@@ -4,9 +4,8 @@ use mathlib.Core.List.{List, [], _∷_}
 use lib.Dec.{leb, ltb}
 use lib.ListN.{length}
 use Rattle.fields.specs.Numbers.{pick, part}
-use Rattle.fields.specs.Places.{stored}
 use Rattle.refusal.specs.Answer.{Answer, accepted, refused, orElse}
-use Rattle.format.specs.Walk.{Counts, Run, fine, stopped, andThen, oneRecord}
+use Rattle.format.specs.Walk.{Counts, Run, fine, andThen, putBytes}
 use Rattle.format.specs.Writing.{onAccepted, ifAccepted, over}
 use Rattle.format.specs.Reading.{leafTest}
 
@@ -25,12 +24,6 @@ lookBytes file rs a n = bytesIf (lookTest file rs a n) file rs a n
 -- Record i of n records of rs bytes, or as much of it as there is; nothing where i is not below n.
 unfoldable pub recordOf : List ℕ → ℕ → ℕ → ℕ → List ℕ
 recordOf bytes rs n i = pick (ltb i n) (part bytes (i * rs) rs) []
-
--- Puts bytes out as one record of rs bytes, after those that are there; 15 where a record does not fit.
-unfoldable pub putBytes : ℕ → List ℕ → Counts → List ℕ → Run
-putBytes rs b c o =
-    orElse (leb ((c .records + 1) * rs) (length o)) (stopped 15 (length o ∷ []) c o)
-    (fine (oneRecord c) (stored o (c .records * rs) b))
 
 -- Puts the records from record i on out that are handed out one after another, n of them.
 unfoldable pub putEach : ℕ → (ℕ → List ℕ) → ℕ → ℕ → Counts → List ℕ → Run

@@ -65,12 +65,16 @@ pub record Tests : Type 0 where
   pub internal : ℕ → ℕ → ℕ → Answer
   pub child : ℕ → ℕ → ℕ → Answer
 
+-- Puts bytes out as one record of rs bytes, after those that are there; 15 where a record does not fit.
+abbrev pub putBytes : ℕ → List ℕ → Counts → List ℕ → Run
+putBytes rs b c o =
+    orElse (leb ((c .records + 1) * rs) (length o)) (stopped 15 (length o ∷ []) c o)
+    (fine (oneRecord c) (stored o (c .records * rs) b))
+
 module _ (s : Source) where
-  -- Puts the record at place p of the file out, after those that are there; 15 where it does not fit.
+  -- Puts the record at place p of the file out.
   unfoldable pub putRecord : ℕ → Counts → List ℕ → Run
-  putRecord p c o =
-      orElse (leb ((c .records + 1) * s .rs) (length o)) (stopped 15 (length o ∷ []) c o)
-      (fine (oneRecord c) (stored o (c .records * s .rs) (part (s .file) p (s .rs))))
+  putRecord p = putBytes (s .rs) (part (s .file) p (s .rs))
 
   -- n records from place p on, one by one.
   unfoldable pub putRecords : ℕ → ℕ → Counts → List ℕ → Run

@@ -7,8 +7,8 @@ use Rattle.fields.specs.Numbers.{pick}
 use Rattle.refusal.specs.Answer.{Answer, accepted, refused, refusalOf}
 use Rattle.node_info.specs.Capacity.{countWidth, totalWidth, nodeCapacity, subtreeCapacity}
 use Rattle.node_info.specs.declared.NodeInfo.{NodeInfo}
-use Rattle.node_info.specs.declared.Verdict.{Verdict}
-use Rattle.node_info.specs.declared.Verdict.the-variants.{Accepted, Refused}
+use Rattle.refusal.specs.declared.Verdict.{Verdict}
+use Rattle.refusal.specs.declared.Verdict.the-variants.{Accepted, Refused}
 
 -- k entries of a column from level i on: f up to level d, and 0 above.
 unfoldable pub columnFrom : (ℕ → ℕ) → ℕ → ℕ → ℕ → List ℕ

@@ -5,6 +5,8 @@ ghost use lib.Dec.{leb};
 ghost use Rattle.fields.specs.Numbers.{pick, width};
 ghost use Rattle.node_info.specs.Capacity.{leafCapacity, countWidth, subtree, internalCapacity, subtreeCapacity, depthFor};
 ghost use Rattle.node_info.specs.Table.{infoAt, noInfo, tabled, tableAnswer};
+use refusal::Refusal;
+use refusal::Verdict;
 
 // The table; an entry above the depth that it was made for is 0.
 pub struct NodeInfo {
@@ -16,11 +18,6 @@ pub struct NodeInfo {
     pub max_nrec: [u64; 33],
     // records in a full subtree of each level (C)
     pub cum_max_nrec: [u64; 33],
-}
-
-pub enum Verdict {
-    Accepted,
-    Refused(refusal::Refusal),
 }
 
 // An array can't stand in an enum, so the table stands beside the verdict: all zeros where it is refused.
@@ -139,7 +136,7 @@ impl NodeInfo {
     {
         if NodeInfo::LEVEL_LIMIT < depth {
             return NodeInfoAnswer {
-                verdict: Verdict::Refused(refusal::Refusal::DepthAboveLimit(depth)),
+                verdict: Verdict::Refused(Refusal::DepthAboveLimit(depth)),
                 info: NodeInfo::none(),
             };
         }

@@ -9,7 +9,9 @@ use lib.ListN.{length, take, replicate, length-take, length-append, length-repli
 use lib.Seq.{take-append-add, take-at}
 use Rattle.refusal.specs.declared.Refusal.{Refusal}
 use Rattle.refusal.specs.declared.Refusal.the-variants.{UnexpectedEof, InvalidBTreeV2Signature, InvalidBTreeV2Version, InvalidOffsetSize, InvalidLengthSize, ChecksumMismatch, InvalidNodeSize, ZeroRecordSize, TooManyRecords, LevelHoldsNone, SubtreeTooThin, RecordBufferLength, CountAboveLengthSize, AddressAboveOffsetSize, OutputTooShort, DepthAboveLimit}
-use Rattle.refusal.specs.Answer.{Answer, accepted, refused, refusalOf, cells}
+use Rattle.refusal.specs.declared.Verdict.{Verdict}
+use Rattle.refusal.specs.declared.Verdict.the-variants.{Accepted, Refused}
+use Rattle.refusal.specs.Answer.{Answer, accepted, refused, refusalOf, verdictOf, cells}
 
 -- k numbers are k.
 pub length-cells : (k : ℕ) (a : Answer) → length (cells k a) ≡ k
@@ -64,3 +66,11 @@ cells-more r m = let s = refused-is r in rw (s .2) (more m (s .0) (s .1) (s .3))
 pub told-is : {s t : Refusal} {n x y a b c : ℕ} → s ≡ t → (a ≡ n) × (b ≡ x) × (c ≡ y) → n ∷ x ∷ y ∷ [] ≡ cells 3 (refusalOf t)
     → a ∷ b ∷ c ∷ [] ≡ cells 3 (refusalOf s)
 told-is e h r = rw (e, h .0, h .1, h .2) r
+
+-- What a verdict tells: zeros, or what its cause tells.
+pub accepted-told : {v : Verdict} {a b c : ℕ} → v ≡ Accepted → (a ≡ 0) × (b ≡ 0) × (c ≡ 0) → a ∷ b ∷ c ∷ [] ≡ cells 3 (verdictOf v)
+unfolding cells
+accepted-told e h = rw (e, h .0, h .1, h .2)
+
+pub refused-told : {v : Verdict} {r : Refusal} {t : List ℕ} → v ≡ Refused r → t ≡ cells 3 (refusalOf r) → t ≡ cells 3 (verdictOf v)
+refused-told e h = rw e h

@@ -5,6 +5,8 @@ use mathlib.Core.List.{List, [], _∷_, _++_}
 use lib.ListN.{take, replicate}
 use Rattle.refusal.specs.declared.Refusal.{Refusal}
 use Rattle.refusal.specs.declared.Refusal.the-variants.{UnexpectedEof, InvalidBTreeV2Signature, InvalidBTreeV2Version, InvalidOffsetSize, InvalidLengthSize, ChecksumMismatch, InvalidNodeSize, ZeroRecordSize, TooManyRecords, LevelHoldsNone, SubtreeTooThin, RecordBufferLength, CountAboveLengthSize, AddressAboveOffsetSize, OutputTooShort, DepthAboveLimit}
+use Rattle.refusal.specs.declared.Verdict.{Verdict}
+use Rattle.refusal.specs.declared.Verdict.the-variants as verdict
 
 -- Accepted with the figures that the call gives, or refused by a number with its values.
 pub data Answer : Type 0 where
@@ -34,6 +36,11 @@ refusalOf (CountAboveLengthSize count) = refused 13 (count ∷ [])
 refusalOf (AddressAboveOffsetSize start) = refused 14 (start ∷ [])
 refusalOf (OutputTooShort length) = refused 15 (length ∷ [])
 refusalOf (DepthAboveLimit depth) = refused 16 (depth ∷ [])
+
+-- What the verdict of a test says.
+abbrev pub verdictOf : Verdict → Answer
+verdictOf verdict.Accepted = accepted []
+verdictOf (verdict.Refused r) = refusalOf r
 
 -- An answer as k numbers: the refusal's number (0 where accepted), the figures or values, and zeros.
 unfoldable pub cells : ℕ → Answer → List ℕ

@@ -1,8 +1,8 @@
-// The causes for which a call is refused, and the number and values of each.
+// The causes for which a call is refused, the number and values of each, and the verdict of a test.
 
 ghost use mathlib.Core.Path.{_≡_};
 ghost use mathlib.Core.List.{[], _∷_};
-ghost use Rattle.refusal.specs.Answer.{refusalOf, cells};
+ghost use Rattle.refusal.specs.Answer.{refusalOf, verdictOf, cells};
 
 // A cause, named as in hdf5-pure where that has it.
 pub enum Refusal {
@@ -84,6 +84,24 @@ impl Refusal {
             Refusal::AddressAboveOffsetSize(start) => of_two(14, start, 0),
             Refusal::OutputTooShort(length) => of_two(15, length, 0),
             Refusal::DepthAboveLimit(depth) => of_two(16, depth as u64, 0),
+        }
+    }
+}
+
+// The verdict of a test.
+pub enum Verdict {
+    Accepted,
+    Refused(Refusal),
+}
+
+impl Verdict {
+    // The number and values of the refusal, zeros where there is none.
+    pub fn told(self) -> Told
+        ensures { λ r. ⌜ r .number ∷ r .first ∷ r .second ∷ [] ≡ cells 3 (verdictOf self) ⌝ }
+    {
+        match self {
+            Verdict::Accepted => of_two(0, 0, 0),
+            Verdict::Refused(cause) => cause.told(),
         }
     }
 }

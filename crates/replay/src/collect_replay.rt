@@ -11,8 +11,8 @@ use crate::tally::Tally;
 use btree_v2::Collected;
 use btree_v2::collect;
 use btree_v2_header::BTreeV2Header;
-use checks::Verdict;
 use refusal::Told;
+use refusal::Verdict;
 
 // The three numbers of a verdict.
 fn told(verdict: Verdict) -> Told {

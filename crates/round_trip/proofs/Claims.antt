@@ -7,7 +7,7 @@ use lib.ListN.{length, getD, take, drop}
 use lib.Seq.{take-at}
 use Rattle.fields.specs.Numbers.{part, held}
 use Rattle.refusal.specs.declared.Refusal.{Refusal}
-use Rattle.refusal.specs.Answer.{Answer, accepted, refused, refusalOf, cells}
+use Rattle.refusal.specs.Answer.{Answer, accepted, refused, refusalOf, cells, verdictOf}
 use Rattle.refusal.proofs.Answers.{refused-is}
 use Rattle.plan.specs.declared.PlanAnswer.{PlanAnswer}
 use Rattle.plan.specs.Planned.{planAnswerOf}
@@ -26,11 +26,10 @@ use Rattle.format.proofs.Returned.{returns}
 use Rattle.btree_v2_header.specs.declared.BTreeV2Header.{BTreeV2Header}
 use Rattle.btree_v2_header.specs.declared.HeaderAnswer.{HeaderAnswer}
 use Rattle.btree_v2_header.specs.declared.HeaderAnswer.the-variants as header
-use Rattle.checks.specs.declared.Verdict.{Verdict}
-use Rattle.checks.specs.declared.Verdict.the-variants as verdict
+use Rattle.refusal.specs.declared.Verdict.{Verdict}
+use Rattle.refusal.specs.declared.Verdict.the-variants as verdict
 use Rattle.btree_v2.specs.declared.Tally.{Tally}
 use Rattle.btree_v2.specs.declared.Collected.{Collected}
-use Rattle.checks.specs.Verdicts.{verdictOf}
 use Rattle.btree_v2_header.specs.Answers.{fieldsOf, headerAnswerOf}
 use Rattle.btree_v2.specs.Answers.{collectedCells}
 use Rattle.btree_v2_write.specs.Call.{Wrote}

@@ -5,7 +5,7 @@ use mathlib.Core.List.{List, [], _∷_, _++_}
 use Prim.Native.Nat.{ℕ, _+_, _*_, _≤_, _<_}
 use lib.ListN.{length, getD, take, drop}
 use Rattle.fields.specs.Numbers.{part}
-use Rattle.refusal.specs.Answer.{Answer, accepted, refused}
+use Rattle.refusal.specs.Answer.{Answer, accepted, refused, verdictOf}
 use Rattle.plan.specs.Tree.{leaves}
 use Rattle.plan.specs.Planned.{planned, planAnswerOf}
 use Rattle.format.specs.Writing
@@ -13,7 +13,6 @@ use Rattle.format.specs.Writing.{Request, depthOf, nodesOf, rootOf, rootRecords
 use Rattle.format.specs.Walk.{Run, stopped, noCounts}
 use Rattle.format.specs.Reading
 use Rattle.format.specs.Reading.{Header, runCells, runOutput}
-use Rattle.checks.specs.Verdicts.{verdictOf}
 use Rattle.btree_v2_header.specs.Answers.{headerAnswerOf}
 use Rattle.btree_v2.specs.Answers.{collectedCells}
 use Rattle.round_trip.specs.declared.RoundTrip.{RoundTrip}

@@ -6,8 +6,8 @@ use btree_v2::Collected;
 use btree_v2::Tally;
 use btree_v2_header::BTreeV2Header;
 use btree_v2_header::HeaderAnswer;
-use checks::Verdict;
 use plan::PlanAnswer;
+use refusal::Verdict;
 
 // The three calls' answers. Where the header is refused, nothing is collected and the verdict is that refusal.
 pub struct RoundTrip {

@@ -41,7 +41,7 @@ use denote.Triple.Walked.{says, Stays, stay-none, stay-none-slice, walkOf, goes-
 use denote.Exit.{yes}
 use denote.Triple.Clauses.{ensured, lasts}
 use Rattle.format.specs.Look.{lookTest, lookBytes, recordOf}
-use Rattle.checks.specs.Verdicts.{verdictOf}
+use Rattle.refusal.specs.Answer.{verdictOf}
 use Rattle.btree_v2_leaf.specs.declared.LeafView.{LeafView}
 use Rattle.btree_v2_leaf.specs.declared.LeafAnswer.{LeafAnswer}
 use Rattle.btree_v2_leaf.proofs.Views.{View, Answer}

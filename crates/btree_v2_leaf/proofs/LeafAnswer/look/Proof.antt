@@ -39,14 +39,14 @@ use denote.Triple.Walked.{says, Stays, stay-none, stay-none-slice, walkOf, goes-
 use denote.Exit.{yes}
 use denote.Triple.Clauses.{ensured, lasts}
 use Rattle.format.specs.Look.{lookTest, bytesIf, lookBytes}
-use Rattle.checks.specs.Verdicts.{verdictOf}
-use Rattle.checks.specs.declared.Verdict.{Verdict}
+use Rattle.refusal.specs.Answer.{verdictOf}
+use Rattle.refusal.specs.declared.Verdict.{Verdict}
 use Rattle.btree_v2_leaf.specs.declared.LeafView.{LeafView}
 use Rattle.btree_v2_leaf.specs.declared.LeafAnswer.{LeafAnswer}
 use Rattle.btree_v2_leaf.proofs.Leaves.{look-bytes}
 use Rattle.btree_v2_leaf.proofs.Views.{View, Answer, shut-at}
-use Rattle.checks.proofs.Verdict as E
-use Rattle.checks.proofs.Verdict.Laws as E′
+use Rattle.refusal.proofs.Verdict as E
+use Rattle.refusal.proofs.Verdict.Laws as E′
 use Rattle.btree_v2_leaf.proofs.LeafView as T
 use Rattle.btree_v2_leaf.proofs.LeafView.Laws as T′
 use Rattle.btree_v2_leaf.proofs.LeafAnswer as S
