@@ -22,8 +22,8 @@ use Rattle.refusal.specs.declared.Verdict.{Verdict}
 use Rattle.refusal.specs.declared.Verdict.the-variants.{Accepted, Refused}
 use Rattle.btree_v2.specs.declared.Tally.{Tally}
 use Rattle.btree_v2.specs.declared.Collected.{Collected}
-use Rattle.btree_v2.specs.declared.collect.Sizes.{Sizes}
-use Rattle.btree_v2.specs.declared.collect.Node.{Node}
+use Rattle.btree_v2.specs.declared.collect.TreeSizes.{TreeSizes}
+use Rattle.btree_v2_internal.specs.declared.Node.{Node}
 use Rattle.btree_v2_header.specs.Answers.{fieldsOf}
 use Rattle.btree_v2.specs.Answers.{collectedCells}
 use Rattle.btree_v2.specs.Collecting.{countsOf, runOf, heldRun, sourceAt, Readable, Within, Walked, nodeWalk}
@@ -54,7 +54,7 @@ output-of : (v : Verdict) (t : Tally) (o : List ℕ) → runOutput (runOf (recor
 output-of Accepted t o = refl
 output-of (Refused q) t o = rw (refused-is q .2)
 
-walked-ends : (z : Sizes) (x : Run) (r : Collected) (o : List ℕ) → Walked z x r o → r .tally .records < 2 ^ 64
+walked-ends : (z : TreeSizes) (x : Run) (r : Collected) (o : List ℕ) → Walked z x r o → r .tally .records < 2 ^ 64
     → r .tally .leaves < 2 ^ 64 → r .tally .internals < 2 ^ 64 → r .tally .inner < 2 ^ 64 → Ends x r o
 walked-ends z x r o walked a b c d =
     let count = cells-of (r .verdict) (r .tally) o in (
@@ -93,7 +93,7 @@ module _ (file : List ℕ) (h : BTreeV2Header) (ow : ℕ) (o : List ℕ) where
       -- The sizes that the table gives, and the walk by them from the root on.
       module _ (deep : h .depth ≤ 32) (info : NodeInfo)
           (table : info ≡ pick (leb (h .depth) 32) (infoAt (h .«node_size») (h .«record_size») ow (h .depth)) noInfo) where
-        abbrev sizes : Sizes
+        abbrev sizes : TreeSizes
         sizes =
             record
             { «node_size» = h .«node_size»; «record_size» = h .«record_size»; «offset_size» = ow; «count_size» = info .«max_nrec_size» }

@@ -17,7 +17,7 @@ use Rattle.format.proofs.Puts.{puts-records}
 use Rattle.refusal.specs.declared.Refusal.the-variants.{OutputTooShort}
 use Rattle.refusal.specs.declared.Verdict.the-variants.{Accepted, Refused}
 use Rattle.btree_v2.specs.declared.Tally.{Tally}
-use Rattle.btree_v2.specs.declared.collect.Sizes.{Sizes}
+use Rattle.btree_v2.specs.declared.collect.TreeSizes.{TreeSizes}
 use Rattle.btree_v2.specs.Collecting.{countsOf, heldCounts, sourceAt, Within, Walked}
 use Rattle.btree_v2.proofs.Holding.{held-held}
 
@@ -51,7 +51,7 @@ module _ (n k room : ℕ) (some : 0 < k) where
   )
 
 -- `put_records`.
-module _ (file : List ℕ) (z : Sizes) (from n : ℕ) (t : Tally) (o : List ℕ) (some : 0 < z .«record_size»)
+module _ (file : List ℕ) (z : TreeSizes) (from n : ℕ) (t : Tally) (o : List ℕ) (some : 0 < z .«record_size»)
     (there : from + n * z .«record_size» ≤ length file) (within : Within z t o) (fit : ℕ)
     (fits : Fitting n (z .«record_size») (length o - t .records * z .«record_size») fit) where
   -- What fits is there, and has room; so the count of records fits a word.

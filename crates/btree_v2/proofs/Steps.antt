@@ -13,18 +13,18 @@ use Rattle.refusal.specs.declared.Verdict.{Verdict}
 use Rattle.refusal.specs.declared.Verdict.the-variants.{Accepted, Refused}
 use Rattle.btree_v2.specs.declared.Tally.{Tally}
 use Rattle.btree_v2.specs.declared.Collected.{Collected}
-use Rattle.btree_v2.specs.declared.collect.Sizes.{Sizes}
-use Rattle.btree_v2.specs.declared.collect.Node.{Node}
+use Rattle.btree_v2.specs.declared.collect.TreeSizes.{TreeSizes}
+use Rattle.btree_v2_internal.specs.declared.Node.{Node}
 use Rattle.btree_v2.specs.Collecting.{countsOf, runOf, heldCounts, heldRun, sourceAt, testsAt, Readable, Within, Walked, nodeWalk, childWalk, innerWalk, childStep}
 use Rattle.refusal.proofs.Answers.{refused-is}
 use Rattle.btree_v2.proofs.Holding.{Alike, from-held, records-held, alike-after, fine-alike, count-alike, puts-alike, inner-alike, children-alike, node-alike}
 
-pub leaf-within : (z : Sizes) (t t1 : Tally) (o : List ℕ) → heldCounts (countsOf t1) ≡ heldCounts (oneLeaf (countsOf t)) → Within z t o
+pub leaf-within : (z : TreeSizes) (t t1 : Tally) (o : List ℕ) → heldCounts (countsOf t1) ≡ heldCounts (oneLeaf (countsOf t)) → Within z t o
     → Within z t1 o
 leaf-within z t t1 o e h = rw (records-held (oneLeaf (countsOf t)) (countsOf t1) e) h
 
 -- A step, and what follows it.
-module _ (next : Counts → List ℕ → Run) (alike : Alike next) {z : Sizes} {x : Run} {r : Collected} {o : List ℕ} (walked : Walked z x r o) where
+module _ (next : Counts → List ℕ → Run) (alike : Alike next) {z : TreeSizes} {x : Run} {r : Collected} {o : List ℕ} (walked : Walked z x r o) where
   after : heldRun (andThen x next) ≡ heldRun (andThen (runOf r o) next)
   after =
       sym (alike-after next alike x) ∙ ap (λ y. heldRun (andThen y next)) (sym (walked .ends)) ∙ alike-after next alike (runOf r o)
@@ -47,7 +47,7 @@ test-passes : (test : Answer) (v : Verdict) (c : Counts) (o : List ℕ) (x : Run
 test-passes test v c o x h e = rw (← h, e)
 
 -- The same walk, put otherwise.
-walked-as : {z : Sizes} {x y : Run} {r : Collected} {o : List ℕ} → heldRun x ≡ heldRun y → Walked z x r o → Walked z y r o
+walked-as : {z : TreeSizes} {x y : Run} {r : Collected} {o : List ℕ} → heldRun x ≡ heldRun y → Walked z x r o → Walked z y r o
 walked-as e walked = record { ends = walked .ends ∙ e; within = walked .within }
 
 then-fine : (x : Run) → andThen x fine ≡ x
@@ -62,7 +62,7 @@ then-then : (x : Run) (f g : Counts → List ℕ → Run) → andThen x (λ c o.
 then-then (fine c o) f g = refl
 then-then (stopped number values c o) f g = refl
 
-module _ (file : List ℕ) (z : Sizes) where
+module _ (file : List ℕ) (z : TreeSizes) where
   abbrev s : Source
   s = sourceAt file z
 
@@ -247,6 +247,6 @@ module _ (file : List ℕ) (z : Sizes) where
         }
 
 -- A level below.
-pub readable-under : (z : Sizes) (l : List ℕ) (d : ℕ) → Readable z l d → Readable z l (d - 1)
+pub readable-under : (z : TreeSizes) (l : List ℕ) (d : ℕ) → Readable z l d → Readable z l (d - 1)
 readable-under z l d h =
     record { some = h .some; deep = omega (arith, h .deep); counts = h .counts; totals = λ u k. h .totals u (omega arith) }

@@ -11,8 +11,9 @@ use Rattle.format.specs.Reading.{collectTests}
 use Rattle.refusal.specs.Answer.{verdictOf}
 use Rattle.btree_v2.specs.declared.Tally.{Tally}
 use Rattle.btree_v2.specs.declared.Collected.{Collected}
-use Rattle.btree_v2.specs.declared.collect.Sizes.{Sizes}
-use Rattle.btree_v2.specs.declared.collect.Node.{Node}
+use Rattle.btree_v2.specs.declared.collect.TreeSizes.{TreeSizes}
+use Rattle.btree_v2_internal.specs.declared.Sizes.{Sizes}
+use Rattle.btree_v2_internal.specs.declared.Node.{Node}
 
 -- A tally's counts.
 abbrev pub countsOf : Tally → Counts
@@ -32,7 +33,7 @@ heldRun (fine c o) = fine (heldCounts c) o
 heldRun (stopped number values c o) = stopped number values (heldCounts c) o
 
 -- The file as a walk by these sizes goes over it, and collecting's tests there.
-unfoldable pub sourceAt : List ℕ → Sizes → Source
+unfoldable pub sourceAt : List ℕ → TreeSizes → Source
 sourceAt file z =
     record {
       file = file;
@@ -42,26 +43,36 @@ sourceAt file z =
       tw = totalWidth (z .«node_size») (z .«record_size») (z .«offset_size»);
     }
 
-abbrev pub testsAt : List ℕ → Sizes → Tests
+abbrev pub testsAt : List ℕ → TreeSizes → Tests
 testsAt file z = collectTests (sourceAt file z)
 
+-- The sizes of an internal node whose children have level d.
+unfoldable pub sizesAbove : TreeSizes → ℕ → Sizes
+sizesAbove z d =
+    record {
+      «record_size» = z .«record_size»;
+      «offset_size» = z .«offset_size»;
+      «count_size» = countWidth (z .«node_size») (z .«record_size»);
+      «total_size» = totalWidth (z .«node_size») (z .«record_size») (z .«offset_size») d;
+    }
+
 -- Records have bytes, and the sizes of counts and, in l, of totals up to level d are those of the tree.
-pub record Readable (z : Sizes) (l : List ℕ) (d : ℕ) : Type 0 where
+pub record Readable (z : TreeSizes) (l : List ℕ) (d : ℕ) : Type 0 where
   pub some : 0 < z .«record_size»
   pub deep : d ≤ 32
   pub counts : z .«count_size» ≡ countWidth (z .«node_size») (z .«record_size»)
   pub totals : (u : ℕ) → u ≤ d → getD l u 0 ≡ totalWidth (z .«node_size») (z .«record_size») (z .«offset_size») u
 
 -- The records put out are within the output.
-abbrev pub Within : Sizes → Tally → List ℕ → Type 0
+abbrev pub Within : TreeSizes → Tally → List ℕ → Type 0
 Within z t o = t .records * z .«record_size» ≤ length o
 
 -- The walk x ends as the answer r and the output o say, all counts held; and the records put out are within the output.
-pub record Walked (z : Sizes) (x : Run) (r : Collected) (o : List ℕ) : Type 0 where
+pub record Walked (z : TreeSizes) (x : Run) (r : Collected) (o : List ℕ) : Type 0 where
   pub ends : heldRun (runOf r o) ≡ heldRun x
   pub within : Within z (r .tally) o
 
-module _ (file : List ℕ) (z : Sizes) where
+module _ (file : List ℕ) (z : TreeSizes) where
   -- The walk over a node of level d.
   unfoldable pub nodeWalk : ℕ → Node → Counts → List ℕ → Run
   nodeWalk d x = nodeRun (sourceAt file z) (testsAt file z) d (x .address) (x .records)

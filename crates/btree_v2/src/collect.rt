@@ -5,31 +5,27 @@ ghost use mathlib.Core.List.{[]};
 ghost use Prim.Native.Nat.{ℕ, _+_, _-_, _*_, _^_, _≤_, _<_};
 ghost use lib.ListN.{length};
 ghost use Rattle.refusal.specs.Answer.{accepted, verdictOf};
-ghost use Rattle.format.specs.Walk.{oneLeaf, oneInternal, oneInner, putRecords, innerRun, nodeRun, pointerWidth, pointerPlace, childAddress, childRecords};
+ghost use Rattle.format.specs.Walk.{oneLeaf, oneInternal, oneInner, putRecords, pointerPlace, childAddress, childRecords};
 ghost use Rattle.format.specs.Reading.{internalTest, collected, runCells, runOutput};
 ghost use Rattle.btree_v2_header.specs.Answers.{fieldsOf};
 ghost use Rattle.btree_v2.specs.Answers.{collectedCells};
-ghost use Rattle.btree_v2.specs.Collecting.{countsOf, heldCounts, sourceAt, Readable, Within, Walked, nodeWalk, innerWalk, childStep};
+ghost use Rattle.btree_v2.specs.Collecting.{countsOf, heldCounts, sourceAt, Readable, Within, Walked, sizesAbove, nodeWalk, innerWalk, childStep};
 use crate::Collected;
 use crate::Tally;
 use btree_v2_header::BTreeV2Header;
+use btree_v2_internal::Node;
+use btree_v2_internal::Sizes;
 use node_info::NodeInfo;
 use refusal::Refusal;
 use refusal::Verdict;
 
-// Sizes in bytes; those of subtrees' totals stand in a table beside them, by the level of the subtree's root.
-struct Sizes {
+// Sizes in bytes of a tree; those of subtrees' totals stand in a table beside them, by the level of the subtree's root.
+struct TreeSizes {
     node_size: u32,
     record_size: u16,
     offset_size: u8,
     // of a child's record count
     count_size: u8,
-}
-
-// A node as the pointer to it has it.
-struct Node {
-    address: u64,
-    records: u16,
 }
 
 // The tally with one leaf, one internal node, or one record from an internal node more.
@@ -85,7 +81,7 @@ fn fitting(n: u16, size: u16, room: usize) -> usize
 // Puts n records from place `from` of the file on out, after those that are there: as many as fit, and 15 where one does not.
 fn put_records(
     file: &[u8],
-    sizes: Sizes,
+    sizes: TreeSizes,
     from: usize,
     n: u16,
     tally: Tally,
@@ -117,7 +113,13 @@ fn put_records(
 }
 
 // Reads a leaf, whose records are put out at once.
-fn collect_leaf(file: &[u8], sizes: Sizes, node: Node, tally: Tally, output: &mut [u8]) -> Collected
+fn collect_leaf(
+    file: &[u8],
+    sizes: TreeSizes,
+    node: Node,
+    tally: Tally,
+    output: &mut [u8],
+) -> Collected
     requires { ⌜ (0 < sizes .«record_size») × (Within sizes tally (now output)) ⌝ }
     ensures { λ r. ⌜ Walked sizes (nodeWalk (now (file .entry)) sizes 0 node (countsOf tally) (now (output .entry))) r (now (output .exit)) ⌝ }
 {
@@ -129,17 +131,23 @@ fn collect_leaf(file: &[u8], sizes: Sizes, node: Node, tally: Tally, output: &mu
     put_records(file, sizes, from, node.records, one_leaf(tally), output)
 }
 
-// The bytes of a pointer to a child whose total has this size.
-fn pointer_size(sizes: Sizes, total_size: u8) -> usize
-    ensures { λ r. ⌜ (r ≡ sizes .«offset_size» + sizes .«count_size» + «total_size») × (r < 1024) ⌝ }
+// The sizes of an internal node whose children have level `under`.
+fn sizes_above(sizes: TreeSizes, total_sizes: &[u8; 33], under: usize) -> Sizes
+    requires { ⌜ Readable sizes (now «total_sizes») under ⌝ }
+    ensures { λ r. ⌜ r ≡ sizesAbove sizes under ⌝ }
 {
-    (sizes.offset_size as usize) + (sizes.count_size as usize) + (total_size as usize)
+    Sizes {
+        record_size: sizes.record_size,
+        offset_size: sizes.offset_size,
+        count_size: sizes.count_size,
+        total_size: total_sizes[under],
+    }
 }
 
-// An internal node's tests; its children have level `under`.
-fn check_internal(
+// The tests of an internal node whose children have level `under`.
+fn check_node(
     file: &[u8],
-    sizes: Sizes,
+    sizes: TreeSizes,
     total_sizes: &[u8; 33],
     under: usize,
     node: Node,
@@ -147,35 +155,13 @@ fn check_internal(
     requires { ⌜ Readable sizes (now «total_sizes») under ⌝ }
     ensures { λ r. ⌜ verdictOf r ≡ internalTest (sourceAt (now (file .entry)) sizes) under (node .address) (node .records) ⌝ }
 {
-    let front = checks::ensure_len(file, node.address, 6);
-    let Verdict::Accepted = front else {
-        return front;
-    };
-    let at = node.address as usize;
-    if !checks::has_signature(file, at, b'I', b'N') {
-        return Verdict::Refused(Refusal::InvalidBTreeV2Signature);
-    }
-    let rest = &file[at..];
-    let bytes = (node.records as u64) * (sizes.record_size as u64);
-    let records = checks::ensure_len(rest, 6, bytes);
-    let Verdict::Accepted = records else {
-        return records;
-    };
-    let wide = pointer_size(sizes, total_sizes[under]) as u64;
-    let pointers = checks::ensure_len(rest, 6 + bytes, ((node.records as u64) + 1) * wide);
-    let Verdict::Accepted = pointers else {
-        return pointers;
-    };
-    if fields::is_field_size(sizes.offset_size) {
-        return Verdict::Accepted;
-    }
-    Verdict::Refused(Refusal::InvalidOffsetSize(sizes.offset_size))
+    btree_v2_internal::check_internal(file, sizes_above(sizes, total_sizes, under), node)
 }
 
-// Child i of an internal node, from its pointer.
-fn read_pointer(
+// Child i of an internal node that passed its tests.
+fn child_of(
     file: &[u8],
-    sizes: Sizes,
+    sizes: TreeSizes,
     total_sizes: &[u8; 33],
     under: usize,
     node: Node,
@@ -186,25 +172,14 @@ fn read_pointer(
     requires { ⌜ i ≤ node .records ⌝ }
     ensures { λ r. ⌜ (r .address ≡ childAddress (sourceAt (now (file .entry)) sizes) (pointerPlace (sourceAt (now (file .entry)) sizes) under (node .address) (node .records) i)) × (r .records ≡ childRecords (sourceAt (now (file .entry)) sizes) (pointerPlace (sourceAt (now (file .entry)) sizes) under (node .address) (node .records) i)) ⌝ }
 {
-    let wide = pointer_size(sizes, total_sizes[under]);
-    let bytes = (node.records as usize) * (sizes.record_size as usize);
-    let at = node.address as usize + 6 + bytes + i * wide;
-    let address = fields::read_le(file, at, sizes.offset_size as usize);
-    let count = fields::read_le(
-        file,
-        at + (sizes.offset_size as usize),
-        sizes.count_size as usize,
-    );
-    Node {
-        address,
-        records: (count % 65536) as u16,
-    }
+    let above = sizes_above(sizes, total_sizes, under);
+    btree_v2_internal::read_pointer(file, above, node, i as u16)
 }
 
 // Puts record i of an internal node out.
 fn put_inner(
     file: &[u8],
-    sizes: Sizes,
+    sizes: TreeSizes,
     under: usize,
     node: Node,
     i: usize,
@@ -231,7 +206,7 @@ fn put_inner(
 // Reads the node of level `depth`: a leaf, or an internal node with its children, one after another, and its records between them.
 fn collect_node(
     file: &[u8],
-    sizes: Sizes,
+    sizes: TreeSizes,
     total_sizes: &[u8; 33],
     depth: usize,
     node: Node,
@@ -246,7 +221,7 @@ fn collect_node(
         return collect_leaf(file, sizes, node, tally, output);
     }
     let under = depth - 1;
-    let verdict = check_internal(file, sizes, total_sizes, under, node);
+    let verdict = check_node(file, sizes, total_sizes, under, node);
     let Verdict::Accepted = verdict else {
         return Collected { verdict, tally };
     };
@@ -282,7 +257,7 @@ fn collect_node(
 // Reads child i of an internal node, the first of `left` children that are left, and puts record i out unless it is the last.
 fn collect_child(
     file: &[u8],
-    sizes: Sizes,
+    sizes: TreeSizes,
     total_sizes: &[u8; 33],
     under: usize,
     node: Node,
@@ -296,7 +271,7 @@ fn collect_child(
     requires { ⌜ (i + left ≡ node .records + 1) × (0 < left) × (Within sizes tally (now output)) ⌝ }
     ensures { λ r. ⌜ Walked sizes (childStep (now (file .entry)) sizes under node (left - 1) i (countsOf tally) (now (output .entry))) r (now (output .exit)) ⌝ }
 {
-    let below = read_pointer(file, sizes, total_sizes, under, node, i);
+    let below = child_of(file, sizes, total_sizes, under, node, i);
     let child = collect_node(file, sizes, total_sizes, under, below, tally, output);
     let verdict = child.verdict;
     let Verdict::Accepted = verdict else {
@@ -355,7 +330,7 @@ pub fn collect_btree_v2_records(
         header.depth,
     );
     let info = answer.info;
-    let sizes = Sizes {
+    let sizes = TreeSizes {
         node_size: header.node_size,
         record_size: header.record_size,
         offset_size,

@@ -3,7 +3,6 @@ use mathlib.Core.Path.{_≡_, refl, sym, ap, _∙_}
 use mathlib.Core.Bool.{Bool, true, false, not}
 use mathlib.Core.List.{List, [], _∷_}
 use Prim.Native.Nat.{ℕ, _+_, _-_, _*_, _^_, _≤_, _<_}
-use native.Mathlib.Nat.{mul-le-mul}
 use native.Mathlib.Omega.{arith}
 use lib.ListN.{length}
 use mir.Syntax.{w64}
@@ -22,29 +21,7 @@ use Rattle.format.proofs.Looking as look
 use Rattle.refusal.specs.declared.Verdict.{Verdict}
 use Rattle.refusal.specs.declared.Verdict.the-variants.{Accepted, Refused}
 use Rattle.checks.proofs.Checks.{bytes-there, bytes-missing, test-holds, test-fails}
-
--- Numbers of 16 bits: their product.
-module _ (n k : ℕ) (h : n < 2 ^ 16) (l : k < 2 ^ 16) where
-  product-small : n * k < 2 ^ 32
-  product-small =
-      let a : n ≤ 2 ^ 16 - 1 = omega arith in let b : k ≤ 2 ^ 16 - 1 = omega arith in omega (arith, mul-le-mul a b)
-
-  pub product-fits : Fits w64 (n * k)
-  product-fits = omega (arith, product-small)
-
-  pub rows-end-fits : Fits w64 (6 + n * k)
-  rows-end-fits = omega (arith, product-small)
-
--- The first 6 bytes of a node at a are there.
-module _ (file : List ℕ) (a : ℕ) (front : Verdict) (told : verdictOf front ≡ needs (a + 6) (length file) (accepted [])) (begun : front ≡ Accepted) where
-  pub front-there : a + 6 ≤ length file
-  front-there = bytes-there (a + 6) (length file) front told begun
-
-  pub node-in : a ≤ length file
-  node-in = omega (arith, front-there)
-
-  pub front-fits : length file < 2 ^ 64 → Fits w64 (a + 6)
-  front-fits h = omega (arith, front-there)
+use Rattle.checks.proofs.Nodes.{product-fits, front-there}
 
 -- The records of a leaf at a are there.
 module _ (file : List ℕ) (k a n : ℕ) (rows : Verdict) (counted : verdictOf rows ≡ needs (a + 6 + n * k) (length file) (accepted []))

@@ -1,2 +1,3 @@
 -- The laws of the shared tests: the crates above cite them too.
 pub mod Checks
+pub mod Nodes

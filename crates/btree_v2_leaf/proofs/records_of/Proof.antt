@@ -1,5 +1,6 @@
 -- `records_of` hands out the part of the records of a leaf that passed.
-use Rattle.btree_v2_leaf.proofs.Leaves.{product-fits, records-refused, records-part}
+use Rattle.btree_v2_leaf.proofs.Leaves.{records-refused, records-part}
+use Rattle.checks.proofs.Nodes.{product-fits}
 use borrow.Author.Needs.{needs}
 use Rattle.btree_v2_leaf.proofs.records_of.Statement.{statement}
 use Rattle.btree_v2_leaf.proofs.records_of.Tie as tie

@@ -13,11 +13,11 @@ use Rattle.btree_v2.proofs.collect.+collect_child+collect_node.Lts-coll
 use Rattle.btree_v2.proofs.collect.collect_node.Reads as collect-node
 use Rattle.btree_v2.proofs.collect.collect_node.Kinds as collect-node-kinds
 use Rattle.btree_v2.proofs.collect.+collect_child+collect_node.Lts-collect_node as collect-node-lts
-use Rattle.btree_v2.proofs.collect.check_internal.Reads as check-internal-reads
+use Rattle.btree_v2.proofs.collect.check_node.Reads as check-node-reads
 use Rattle.btree_v2.proofs.collect.collect_leaf.Reads as collect-leaf-reads
 use Rattle.btree_v2.proofs.collect.one_internal.Reads as one-internal-reads
 use Rattle.btree_v2.proofs.collect.put_inner.Reads as put-inner-reads
-use Rattle.btree_v2.proofs.collect.read_pointer.Reads as read-pointer-reads
+use Rattle.btree_v2.proofs.collect.child_of.Reads as child-of-reads
 use Rattle.btree_v2.proofs.collect.+collect_child+collect_node.{statement}
 use Rattle.btree_v2.proofs.collect.+collect_child+collect_node.Tie.{close}
 
@@ -52,7 +52,7 @@ pub +collect-child+collect-node-spec : {M : Type 1} → statement M
     μ-collect-child
     μ-collect-node
     (λ t. collect-child-lts.spec
-    (read-pointer-reads.Asked, read-pointer-reads.Learnt, collect-node-below t, collect-node.Post, put-inner-reads.Asked, put-inner-reads.Learnt)
+    (child-of-reads.Asked, child-of-reads.Learnt, collect-node-below t, collect-node.Post, put-inner-reads.Asked, put-inner-reads.Learnt)
     (collect-child-at t)
     collect-child.Post
     (λ c κs. search arith)
@@ -62,12 +62,12 @@ pub +collect-child+collect-node-spec : {M : Type 1} → statement M
     (λ c. search needs)
     (λ c. search child-stops)
     (λ c. search needs)
-    (λ c. child-last _ _ _ _ _ _ _ _ (c .before .before .before .before .before .before .before .before .before .before .pre .1 .1 .1 .1) _ (c .before .before .before .before .before .before .before .read-pointer .ensures) _ _ (c .before .before .before .before .before .collect-node .ensures) (c .if1 .taken))
+    (λ c. child-last _ _ _ _ _ _ _ _ (c .before .before .before .before .before .before .before .before .before .before .pre .1 .1 .1 .1) _ (c .before .before .before .before .before .before .before .child-of .ensures) _ _ (c .before .before .before .before .before .collect-node .ensures) (c .if1 .taken))
     (λ c κs. search arith)
     (λ c. search needs)
     (λ c. search (child-more, c .before .before .before .before .before .before .before .before .before .before .before .before .before .before .before .pre .1 .1 .1)))
     (λ t. collect-node-lts.spec
-    (collect-leaf-reads.Asked, collect-leaf-reads.Learnt, check-internal-reads.Asked, check-internal-reads.Learnt, one-internal-reads.Asked, one-internal-reads.Learnt, collect-child-below t, collect-child.Post)
+    (collect-leaf-reads.Asked, collect-leaf-reads.Learnt, check-node-reads.Asked, check-node-reads.Learnt, one-internal-reads.Asked, one-internal-reads.Learnt, collect-child-below t, collect-child.Post)
     (collect-node-at t)
     collect-node.Post
     collect-node-Inv-loop

@@ -1,5 +1,5 @@
 -- `fitting` tests by a product whether all fit, and else divides.
-use Rattle.btree_v2_leaf.proofs.Leaves.{product-fits}
+use Rattle.checks.proofs.Nodes.{product-fits}
 use Rattle.btree_v2.proofs.Putting.{fitting-all, fitting-some}
 use borrow.Author.Needs.{needs}
 use Rattle.btree_v2.proofs.collect.fitting.Statement.{statement}

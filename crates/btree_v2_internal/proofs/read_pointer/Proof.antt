@@ -1,0 +1,28 @@
+-- `read_pointer` reads the fields at the pointer.
+use Rattle.btree_v2_internal.proofs.Nodes.{pointers-fit, before-fits, pointer-is}
+use Rattle.checks.proofs.Nodes.{product-fits, rows-end-fits}
+use borrow.Author.Needs.{needs}
+use native.Mathlib.Omega.{arith}
+use Rattle.btree_v2_internal.proofs.read_pointer.Statement.{statement}
+use Rattle.btree_v2_internal.proofs.read_pointer.Tie as tie
+
+pub read-pointer-spec : {M : Type 1} → statement M
+read-pointer-spec =
+    tie.close
+    (tie.spec
+    (λ c. search needs)
+    (λ c. search needs)
+    (λ c. search product-fits)
+    (λ c. search rows-end-fits)
+    (λ c κs. search needs)
+    (λ c. pointers-fit _ (c .pointer-size .ensures .1) _ (omega arith))
+    (λ c. search before-fits)
+    (λ c κs. search needs)
+    (λ c. search needs)
+    (λ c κs. search needs)
+    (λ c. search needs)
+    (λ c κs. search needs)
+    (λ c. search needs)
+    (λ c κs. search needs)
+    (λ c. search needs)
+    (λ c. let entry = c .before .before .before .before .before .before .before .before .before .before .before in pointer-is (entry .args .file .now) (entry .args .sizes) (entry .args .node) (entry .args .i) _ (c .before .before .before .before .before .before .before .pointer-size .ensures) _ _ _ _ (search needs) (c .before .before .before .before .before .before .saturating-add .ensures) (c .before .before .before .before .saturating-add2 .ensures) (c .before .before .read-le .ensures) (c .read-le2 .ensures)))
