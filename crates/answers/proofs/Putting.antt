@@ -106,6 +106,9 @@ pub collected-put : (r : Collected) {n x y : ℕ} → n ∷ x ∷ y ∷ [] ≡ c
     → n ∷ x ∷ y ∷ r .tally .records ∷ r .tally .leaves ∷ r .tally .internals ∷ r .tally .inner ∷ [] ≡ collectedCells r
 collected-put r told = rw (← told)
 
+pub collected-length : (r : Collected) {z : List ℕ} → z ≡ collectedCells r → length z ≡ 7
+collected-length r e = simp (e, length-append, length-cells)
+
 -- The table's columns, each right after the one before.
 two : (a : List ℕ) (x y : ℕ) → 2 ≤ length a → set (set a 0 x) 1 y ≡ stored a 0 (x ∷ y ∷ [])
 unfolding stored

@@ -11,37 +11,14 @@ use crate::tally::Tally;
 use btree_v2::Collected;
 use btree_v2::collect;
 use btree_v2_header::BTreeV2Header;
-use refusal::Told;
-use refusal::Verdict;
-
-// The three numbers of a verdict.
-fn told(verdict: Verdict) -> Told {
-    match verdict {
-        Verdict::Accepted => Told {
-            number: 0,
-            first: 0,
-            second: 0,
-        },
-        Verdict::Refused(cause) => cause.told(),
-    }
-}
 
 // The seven numbers of the answer.
 fn numbers(collected: Collected) -> [u64; 7]
     ensures { λ r. ⌜ 7 ≡ length r ⌝ }
 {
-    let verdict = collected.verdict;
-    let told = told(verdict);
-    let tally = collected.tally;
-    [
-        told.number,
-        told.first,
-        told.second,
-        tally.records,
-        tally.leaves,
-        tally.internals,
-        tally.inner,
-    ]
+    let mut numbers = [0; 7];
+    answers::put_collected(&mut numbers, collected);
+    numbers
 }
 
 // The header of a row.

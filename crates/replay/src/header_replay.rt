@@ -8,33 +8,14 @@ use crate::rows;
 use crate::tally::Tally;
 use btree_v2_header::BTreeV2Header;
 use btree_v2_header::HeaderAnswer;
-use refusal::Refusal;
-
-// A refusal's eight numbers.
-fn refused(cause: Refusal) -> [u64; 8]
-    ensures { λ r. ⌜ 8 ≡ length r ⌝ }
-{
-    let told = cause.told();
-    [told.number, told.first, told.second, 0, 0, 0, 0, 0]
-}
 
 // The eight numbers of the answer.
 fn numbers(answer: HeaderAnswer) -> [u64; 8]
     ensures { λ r. ⌜ 8 ≡ length r ⌝ }
 {
-    match answer {
-        HeaderAnswer::Parsed(header) => [
-            0,
-            header.tree_type as u64,
-            header.node_size as u64,
-            header.record_size as u64,
-            header.depth as u64,
-            header.root_node_address,
-            header.num_records_in_root as u64,
-            header.total_records,
-        ],
-        HeaderAnswer::Refused(cause) => refused(cause),
-    }
+    let mut numbers = [0; 8];
+    answers::put_header(&mut numbers, answer);
+    numbers
 }
 
 // Whether the header of a row, in this file, has its eight numbers.

@@ -4,7 +4,6 @@ ghost use mathlib.Core.Bool.{true};
 ghost use Prim.Native.Nat.{ℕ, _+_, _≤_, _<_};
 ghost use lib.ListN.{length, getD};
 use plan::PlanAnswer;
-use refusal::Refusal;
 
 // Every byte of a lent output before the call.
 pub(crate) const MARK: u8 = 238;
@@ -65,26 +64,11 @@ pub(crate) fn are(numbers: [u64; 5], due: [u64; 5]) -> bool {
     stand_at(&due, 0, &numbers)
 }
 
-// A refusal's five numbers.
-fn refused(cause: Refusal) -> [u64; 5]
-    ensures { λ r. ⌜ 5 ≡ length r ⌝ }
-{
-    let told = cause.told();
-    [told.number, told.first, told.second, 0, 0]
-}
-
 // The five numbers of the answer of a plan or a write.
 pub(crate) fn of_plan(answer: PlanAnswer) -> [u64; 5]
     ensures { λ r. ⌜ 5 ≡ length r ⌝ }
 {
-    match answer {
-        PlanAnswer::Planned(plan) => [
-            0,
-            plan.depth as u64,
-            plan.nodes,
-            plan.leaves,
-            plan.image_size,
-        ],
-        PlanAnswer::Refused(cause) => refused(cause),
-    }
+    let mut numbers = [0; 5];
+    answers::put_plan(&mut numbers, answer);
+    numbers
 }
