@@ -1,8 +1,8 @@
 -- Laws of a part of a list, and of a buffer in which bytes were put at a place.
 use mathlib.Core.Path.{_≡_, refl, _∙_}
 use mathlib.Core.List.{List, [], _∷_, _++_, append-assoc, append-nil}
-use Prim.Native.Nat.{ℕ, zero, suc, _+_, _-_, _≤_, _<_}
-use native.Mathlib.Nat.{add-assoc, add-zero, zero-add, suc-add}
+use Prim.Native.Nat.{ℕ, zero, suc, _+_, _-_, _≤_, _<_, min}
+use native.Mathlib.Nat.{add-assoc, add-zero, zero-add, suc-add, zero-min, min-zero, suc-min-suc}
 use native.Mathlib.Numerals.{add-one}
 use native.Mathlib.Omega.{arith}
 use lib.ListN.{length, getD, take, drop, set, length-append, length-take, length-drop, take-append-drop, drop-of-length-le}
@@ -63,6 +63,14 @@ module _ {A : Type 0} where
 
   pub part-rest : (l : List A) (p w : ℕ) → length l ≤ p + w → part l p w ≡ drop p l
   part-rest l p w h = take-all w (drop p l) (simp length-drop (omega arith))
+
+  take-min : (w : ℕ) (l : List A) → take (min w (length l)) l ≡ take w l
+  take-min zero l = rw zero-min
+  take-min (suc w) [] = rw min-zero
+  take-min (suc w) (x ∷ l) = rw (suc-min-suc, take-min w l)
+
+  pub part-min : (l : List A) (p w : ℕ) → part l p (min w (length l - p)) ≡ part l p w
+  part-min l p w = rw (← length-drop p l, take-min)
 
 -- What `stored` is, for rw.
 pub stored-is : (o : List ℕ) (p : ℕ) (b : List ℕ) → stored o p b ≡ take p o ++ (b ++ drop (p + length b) o)

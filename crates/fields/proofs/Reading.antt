@@ -6,9 +6,8 @@ use native.Mathlib.Nat.{le-refl, sub-self, sub-zero, pow-succ', pow-le-pow-right
 use native.Mathlib.Omega.{arith}
 use lib.Dec.{lit<}
 use lib.ListN.{length, getD, take, drop}
-use lib.Seq.{take-all, take-length}
 use Rattle.fields.specs.Numbers.{unle, num}
-use Rattle.fields.proofs.Lists.{part-cons, part-past, part-rest}
+use Rattle.fields.proofs.Lists.{part-cons, part-past, part-take, part-min}
 
 -- x is the number in the bytes from i on, below n.
 abbrev pub Read : List ℕ → ℕ → ℕ → ℕ → Type 0
@@ -40,18 +39,8 @@ module _ (d : List ℕ) (at w : ℕ) where
   unfolding num unle
   read-past h = rw (part-past d at (min w 8) h)
 
-  -- The bytes from `at` on, as the code has them.
-  abbrev rest : List ℕ
-  rest = take (length d - at) (drop at d)
-
-  rest-is : rest ≡ drop at d
-  rest-is = part-rest d at (length d - at) (omega arith)
-
-  module _ (m r : ℕ) (hm : m ≡ min w 8) where
-    pub read-short : length rest < m → r ≡ num rest 0 (length rest) → r ≡ num d at (min w 8)
-    unfolding num
-    read-short h hr = rw (hr, ← hm, rest-is, take-length, take-all m (drop at d) (rw (← rest-is) (omega arith)))
-
-    pub read-whole : r ≡ num rest 0 m → r ≡ num d at (min w 8)
-    unfolding num
-    read-whole hr = rw (hr, ← hm, rest-is)
+  pub read-part : (m n r : ℕ) → m ≡ min w 8 → n ≡ min m (length d - at)
+      → r ≡ num (take (length d - at) (drop at d)) 0 n → r ≡ num d at (min w 8)
+  unfolding num
+  read-part m n r hm hn hr =
+      rw (hr, part-take (drop at d) (length d - at) 0 n (omega arith), hn, hm, part-min)

@@ -44,12 +44,8 @@ pub fn read_le(data: &[u8], at: usize, width: usize) -> u64
     if data.len() <= at {
         return 0;
     }
-    let rest = &data[at..];
-    let n = smaller(width, 8);
-    if rest.len() < n {
-        return read_bytes(rest, rest.len());
-    }
-    read_bytes(rest, n)
+    let n = smaller(smaller(width, 8), data.len() - at);
+    read_bytes(&data[at..], n)
 }
 
 // The smaller of two numbers.
