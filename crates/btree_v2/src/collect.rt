@@ -32,7 +32,7 @@ struct TreeSizes {
 fn one_leaf(tally: Tally) -> Tally
     ensures { λ r. ⌜ heldCounts (countsOf r) ≡ heldCounts (oneLeaf (countsOf tally)) ⌝ }
 {
-    let leaves = fields::saturating_add(tally.leaves, 1);
+    let leaves = counts::saturating_add(tally.leaves, 1);
     Tally {
         records: tally.records,
         leaves,
@@ -44,7 +44,7 @@ fn one_leaf(tally: Tally) -> Tally
 fn one_internal(tally: Tally) -> Tally
     ensures { λ r. ⌜ heldCounts (countsOf r) ≡ heldCounts (oneInternal (countsOf tally)) ⌝ }
 {
-    let internals = fields::saturating_add(tally.internals, 1);
+    let internals = counts::saturating_add(tally.internals, 1);
     Tally {
         records: tally.records,
         leaves: tally.leaves,
@@ -56,7 +56,7 @@ fn one_internal(tally: Tally) -> Tally
 fn one_inner(tally: Tally) -> Tally
     ensures { λ r. ⌜ heldCounts (countsOf r) ≡ heldCounts (oneInner (countsOf tally)) ⌝ }
 {
-    let inner = fields::saturating_add(tally.inner, 1);
+    let inner = counts::saturating_add(tally.inner, 1);
     Tally {
         records: tally.records,
         leaves: tally.leaves,

@@ -48,7 +48,7 @@ impl BTreeV2Header {
         if version != 0 {
             return HeaderAnswer::Refused(Refusal::InvalidBTreeV2Version(version));
         }
-        if !fields::is_field_size(offset_size) {
+        if !counts::is_field_size(offset_size) {
             return HeaderAnswer::Refused(Refusal::InvalidOffsetSize(offset_size));
         }
         parse_sized(file, offset, offset_size, length_size)
@@ -67,7 +67,7 @@ fn parse_sized(file: &[u8], offset: u64, offset_size: u8, length_size: u8) -> He
     if let Verdict::Refused(r) = checks::ensure_len(file, offset, root_end + 2) {
         return HeaderAnswer::Refused(r);
     }
-    if !fields::is_field_size(length_size) {
+    if !counts::is_field_size(length_size) {
         return HeaderAnswer::Refused(Refusal::InvalidLengthSize(length_size));
     }
     let fields_end = root_end + 2 + (length_size as u64);

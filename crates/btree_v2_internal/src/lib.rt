@@ -54,7 +54,7 @@ pub fn check_internal(file: &[u8], sizes: Sizes, node: Node) -> Verdict
     let Verdict::Accepted = pointers else {
         return pointers;
     };
-    if fields::is_field_size(sizes.offset_size) {
+    if counts::is_field_size(sizes.offset_size) {
         return Verdict::Accepted;
     }
     Verdict::Refused(Refusal::InvalidOffsetSize(sizes.offset_size))
@@ -66,8 +66,8 @@ pub fn read_pointer(file: &[u8], sizes: Sizes, node: Node, i: u16) -> Node
 {
     let bytes = (node.records as u64) * (sizes.record_size as u64);
     let before = 6 + bytes + (i as u64) * pointer_size(sizes);
-    let at = fields::saturating_add(node.address, before);
-    let next = fields::saturating_add(at, sizes.offset_size as u64);
+    let at = counts::saturating_add(node.address, before);
+    let next = counts::saturating_add(at, sizes.offset_size as u64);
     let address = fields::read_le(file, at as usize, sizes.offset_size as usize);
     let count = fields::read_le(file, next as usize, sizes.count_size as usize);
     Node {

@@ -1,5 +1,5 @@
--- A leaf's tests, one law for each way out; what a leaf that passes them has; and the records that are handed out.
-use mathlib.Core.Path.{_≡_, refl, sym, ap, _∙_}
+-- A leaf's tests, one law for each way out; and what a leaf that passes them has.
+use mathlib.Core.Path.{_≡_, sym, ap, _∙_}
 use mathlib.Core.Bool.{Bool, true, false, not}
 use mathlib.Core.List.{List, [], _∷_}
 use Prim.Native.Nat.{ℕ, _+_, _-_, _*_, _^_, _≤_, _<_}
@@ -7,21 +7,18 @@ use native.Mathlib.Omega.{arith}
 use lib.ListN.{length}
 use mir.Syntax.{w64}
 use mir.Val.{Fits}
-use borrow.Author.Tests.{le-leb, lt-leb, lt-ltb, le-ltb}
-use Rattle.fields.specs.Numbers.{held, part}
-use Rattle.fields.proofs.Copying.{part-held}
+use borrow.Author.Tests.{le-leb, lt-leb}
+use Rattle.fields.specs.Numbers.{part}
 use Rattle.refusal.specs.declared.Refusal.{Refusal}
 use Rattle.refusal.specs.Answer.{accepted, refused, verdictOf}
-use Rattle.refusal.proofs.Answers.{refused-is}
 use Rattle.format.specs.Bytes.{leafSignature}
 use Rattle.format.specs.Walk.{needs}
 use Rattle.format.specs.Reading.{same, checksumTest, leafTest}
-use Rattle.format.specs.Look.{lookTest, bytesIf, lookBytes, recordOf}
 use Rattle.format.proofs.Looking as look
 use Rattle.refusal.specs.declared.Verdict.{Verdict}
 use Rattle.refusal.specs.declared.Verdict.the-variants.{Accepted, Refused}
 use Rattle.checks.proofs.Checks.{bytes-there, bytes-missing, test-holds, test-fails}
-use Rattle.checks.proofs.Nodes.{product-fits, front-there}
+use Rattle.checks.proofs.Nodes.{front-there}
 
 -- The records of a leaf at a are there.
 module _ (file : List ℕ) (k a n : ℕ) (rows : Verdict) (counted : verdictOf rows ≡ needs (a + 6 + n * k) (length file) (accepted []))
@@ -75,38 +72,3 @@ module _ (file : List ℕ) (k a n : ℕ) where
 
   pub leaf-fits : (v : Verdict) → verdictOf v ≡ leafTest file k a n → v ≡ Accepted → length file < 2 ^ 64 → Fits w64 (a + 6)
   leaf-fits v told e h = omega (arith, leaf-there v told e)
-
--- `check_view`, `records_of` and `record_of`.
-module _ (file : List ℕ) (k a n : ℕ) where
-  pub look-no-bytes : k ≡ 0 → refused 8 [] ≡ lookTest file k a n
-  unfolding lookTest
-  look-no-bytes e = rw e
-
-  pub look-tested : (v : Verdict) → (k ≡ 0 → ⊥) → verdictOf v ≡ leafTest file k a n → verdictOf v ≡ lookTest file k a n
-  unfolding lookTest
-  look-tested v some e = rw (lt-ltb 0 k (omega arith)) e
-
-  pub records-refused : (v : Verdict) (q : Refusal) → v ≡ Refused q → [] ≡ bytesIf (verdictOf v) file k a n
-  records-refused v q e = rw (e, refused-is q .2)
-
-  pub records-part : (v : Verdict) (at : ℕ) {r : List ℕ} → v ≡ Accepted → length file < 2 ^ 64 → at ≡ held (a + 6)
-      → r ≡ part file at (n * k) → r ≡ bytesIf (verdictOf v) file k a n
-  records-part v at e small h r = rw (e, ← part-held file (a + 6) (n * k) small, ← h) r
-
-module _ (l : List ℕ) (k n i : ℕ) where
-  pub record-none : n ≤ i → [] ≡ recordOf l k n i
-  unfolding recordOf
-  record-none h = rw (le-ltb i n h)
-
-  pub record-fits : n < 2 ^ 16 → k < 2 ^ 16 → i < n → Fits w64 (i * k)
-  record-fits h m b = product-fits i k (omega arith) m
-
-  pub record-part : {r : List ℕ} → i < n → r ≡ part l (i * k) k → r ≡ recordOf l k n i
-  unfolding recordOf
-  record-part h e = rw (lt-ltb i n h) e
-
--- `look`: the bytes of a view, by the verdict.
-pub look-bytes : (file : List ℕ) (k a n : ℕ) (v : Verdict) (x : List ℕ) → verdictOf v ≡ lookTest file k a n
-    → x ≡ bytesIf (verdictOf v) file k a n → x ≡ lookBytes file k a n
-unfolding lookBytes
-look-bytes file k a n v x t e = rw (← t) e

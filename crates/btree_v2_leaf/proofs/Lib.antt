@@ -1,3 +1,2 @@
--- The laws that the crate's proofs cite: Leaves serves the collector too.
+-- The laws of a leaf's tests, which serve the collector too.
 pub mod Leaves
-mod Views

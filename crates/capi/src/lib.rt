@@ -29,7 +29,7 @@ pub extern "C" fn btree_v2_node_info(
     ensures { λ _. ⌜ now (answer .exit) ≡ cells 101 (tabled «node_size» «record_size» «offset_size» depth) ⌝ }
 {
     let computed = NodeInfo::compute(node_size, record_size, offset_size, depth);
-    answers::put_node_info(answer, computed);
+    table_answer::put_node_info(answer, computed);
 }
 
 // The plan: depth, nodes, leaves, image size.
@@ -143,10 +143,10 @@ pub extern "C" fn btree_v2_leaf_record(
     ensures answered { λ _. ⌜ now (answer .exit) ≡ cells 3 (recordAnswer (now (file .entry)) «record_size» address count index (now (output .entry))) ⌝ }
     ensures outputLeft { λ _. ⌜ now (output .exit) ≡ recordExit (now (file .entry)) «record_size» address count index (now (output .entry)) ⌝ }
 {
-    let record = btree_v2_leaf::leaf_record(file, address, count, record_size, index);
+    let record = leaf_view::leaf_record(file, address, count, record_size, index);
     let length = record.len();
     if length == 0 {
-        let verdict = btree_v2_leaf::check_view(file, address, count, record_size);
+        let verdict = leaf_view::check_view(file, address, count, record_size);
         answers::put_verdict(answer, verdict);
         return;
     }

@@ -16,7 +16,7 @@ pub fn ensure_len(data: &[u8], at: u64, count: u64) -> Verdict
     ensures { λ r. ⌜ verdictOf r ≡ needs (at + count) (length (now («data» .entry))) (accepted []) ⌝ }
 {
     let available = data.len() as u64;
-    let expected = fields::saturating_add(at, count);
+    let expected = counts::saturating_add(at, count);
     if available < expected {
         return Verdict::Refused(Refusal::UnexpectedEof {
             expected,

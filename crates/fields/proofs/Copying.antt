@@ -1,14 +1,15 @@
--- `part`, `copy` and `put_bytes`: bytes that are handed out, and bytes that are copied to a place.
+-- `part`, `copy` and `put_bytes`: bytes that are handed out, and bytes that are copied to a place; and zeros over a whole buffer.
 use mathlib.Core.Path.{_≡_, refl, sym}
 use mathlib.Core.Bool.{Bool, true, false}
-use mathlib.Core.List.{List, []}
+use mathlib.Core.List.{List, [], _++_, append-nil}
 use Prim.Native.Nat.{ℕ, _+_, _-_, _^_, _≤_, _<_}
 use native.Mathlib.Nat.{zero-add, add-sub-cancel-left}
 use native.Mathlib.Numerals.{add-one}
 use native.Mathlib.Omega.{arith}
 use lib.Dec.{leb}
-use lib.ListN.{length, getD, set, take, length-set}
-use lib.Seq.{take-suc, take-all, length-take-le, drop-drop}
+use lib.ListN.{length, getD, set, take, drop, replicate, length-set}
+use lib.Seq.{take-suc, take-all, length-take-le, drop-drop, drop-length}
+use borrow.Author.Fill.{fill-none, fill-more}
 use borrow.Author.Needs.{zero≤}
 use borrow.Author.Tests.{leb-true, leb-false}
 use borrow.Rule.Slice.PartMut.{putMid}
@@ -54,6 +55,22 @@ module _ (to₀ from : List ℕ) (same : length to₀ ≡ length from) where
   pub copied-end : (to : List ℕ) (i : ℕ) → Copied to₀ from to i → length to₀ ≤ i → to ≡ from
   copied-end to i inv h =
       rw (inv .3, take-all i from (omega arith), stored-whole to₀ from (omega arith))
+
+-- A loop that puts zeros over a whole buffer: the first i elements are 0.
+abbrev pub Cleared : List ℕ → List ℕ → ℕ → Type 0
+Cleared to₀ to i = (i ≤ length to₀) × (length to ≡ length to₀) × (to ≡ replicate i 0 ++ drop i to₀)
+
+module _ (to₀ : List ℕ) where
+  pub cleared-start : Cleared to₀ to₀ 0
+  cleared-start = (zero≤, refl, fill-none to₀ 0)
+
+  module _ (to : List ℕ) (i : ℕ) (inv : Cleared to₀ to i) where
+    pub cleared-turn : i < length to₀ → Cleared to₀ (set to i 0) (i + 1)
+    cleared-turn h = (omega arith, rw length-set (inv .1), rw (inv .2) (fill-more i 0 to₀ h))
+
+    pub cleared-end : length to₀ ≤ i → to ≡ replicate (length to₀) 0
+    cleared-end h =
+        let e : i ≡ length to₀ = omega arith in rw (inv .2, e, drop-length, append-nil)
 
 -- `put_bytes`: no place, no room, and a part that was lent, back at its place.
 module _ (o b : List ℕ) (at : ℕ) where

@@ -1,40 +1,11 @@
-// Little-endian numbers in byte slices, parts of these and bytes put into them, the byte width of a count, and sums and products held at
-// 2^64 - 1.
+// Little-endian numbers in byte slices, parts of these and bytes put into them.
 
 ghost use mathlib.Core.Path.{_≡_};
-ghost use Prim.Native.Nat.{_+_, _*_, _≤_, min};
+ghost use Prim.Native.Nat.{_+_, _≤_, min};
 ghost use lib.Dec.{leb};
 ghost use lib.ListN.{length};
-ghost use Rattle.fields.specs.Numbers.{pick, le, part, num, held, width, fieldSize};
+ghost use Rattle.fields.specs.Numbers.{pick, le, part, num};
 ghost use Rattle.fields.specs.Places.{put};
-
-// The number of bytes that hold a count: 1 for zero.
-pub fn bytes_for_max_records(max_nrec: u64) -> u8
-    ensures { λ r. ⌜ r ≡ width «max_nrec» ⌝ }
-{
-    if max_nrec == 0 {
-        return 1;
-    }
-    let bits = 64 - u64::leading_zeros(max_nrec);
-    ((bits + 7) / 8) as u8
-}
-
-// a + b, held at 2^64 - 1.
-pub fn saturating_add(a: u64, b: u64) -> u64
-    ensures { λ r. ⌜ r ≡ held (a + b) ⌝ }
-{
-    if a <= u64::MAX - b { a + b } else { u64::MAX }
-}
-
-// a * b, held at 2^64 - 1.
-pub fn saturating_mul(a: u64, b: u64) -> u64
-    ensures { λ r. ⌜ r ≡ held (a * b) ⌝ }
-{
-    if a == 0 {
-        return 0;
-    }
-    if b <= u64::MAX / a { a * b } else { u64::MAX }
-}
 
 // The number in the `width` bytes at `at`, lowest first; of a field that runs past the end, its bytes before the end. A width above 8
 // counts as 8.
@@ -132,17 +103,4 @@ pub fn put_bytes(data: &mut [u8], at: usize, bytes: &[u8])
         return;
     }
     copy(&mut data[at..at + count], bytes);
-}
-
-// Whether offsets or lengths may have this size.
-pub fn is_field_size(size: u8) -> bool
-    ensures { λ r. ⌜ r ≡ fieldSize size ⌝ }
-{
-    if size == 2 {
-        return true;
-    }
-    if size == 4 {
-        return true;
-    }
-    size == 8
 }

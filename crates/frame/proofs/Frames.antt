@@ -9,7 +9,6 @@ use native.Mathlib.Omega.{arith}
 use borrow.Rule.Slice.PartMut.{putMid}
 use borrow.Author.Needs.{zero≤}
 use borrow.Author.Tests.{le-leb, lt-leb}
-use borrow.Author.Fill.{fill-more}
 use lib.ListN.{length, set, take, drop, replicate, length-set, length-append, length-replicate}
 use lib.Seq.{drop-length, drop-drop, sets-eq}
 use Rattle.fields.specs.Numbers.{le, part}
@@ -19,18 +18,6 @@ use Rattle.fields.proofs.Numbers.{le-length}
 use Rattle.checksum.specs.Lookup3.{lookup3}
 use Rattle.format.specs.Bytes.{summed, padded}
 use Rattle.frame.specs.Seals.{sealed}
-
--- The loop of `clear`: the first i bytes are 0.
-abbrev pub Cleared : List ℕ → List ℕ → ℕ → Type 0
-Cleared to₀ to i = (i ≤ length to₀) × (length to ≡ length to₀) × (to ≡ replicate i 0 ++ drop i to₀)
-
-module _ (to₀ : List ℕ) where
-  pub cleared-turn : (to : List ℕ) (i : ℕ) → Cleared to₀ to i → i < length to₀ → Cleared to₀ (set to i 0) (i + 1)
-  cleared-turn to i inv h = (omega arith, rw length-set (inv .1), rw (inv .2) (fill-more i 0 to₀ h))
-
-  pub cleared-end : (to : List ℕ) (i : ℕ) → Cleared to₀ to i → length to₀ ≤ i → to ≡ replicate (length to₀) 0
-  cleared-end to i inv h =
-      let e : i ≡ length to₀ = omega arith in rw (inv .2, e, drop-length, append-nil)
 
 -- `put_front`: no six bytes, and six bytes at the front.
 module _ (o : List ℕ) (a b c d e f : ℕ) where

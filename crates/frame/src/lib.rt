@@ -96,8 +96,8 @@ pub fn write_header(
     ensures { λ _. ⌜ now (header .exit) ≡ put (now (header .entry)) 0 (headerBytes (formAt layout) «length_size» depth address records total) ⌝ }
 {
     let offset_size = layout.offset_size;
-    let size = fields::saturating_add(22, offset_size as u64);
-    let size = fields::saturating_add(size, length_size as u64);
+    let size = counts::saturating_add(22, offset_size as u64);
+    let size = counts::saturating_add(size, length_size as u64);
     if (header.len() as u64) < size {
         return;
     }

@@ -86,9 +86,9 @@ fn level_above(
     ensures { λ r. ⌜ (r .most ≡ internalCapacity «node_size» «record_size» «offset_size» total) × (r .all ≡ subtree (r .most) under) × (r .total ≡ width (r .all)) ⌝ }
 {
     let most = max_records_internal(node_size, record_size, offset_size, wide, total);
-    let all = fields::saturating_add(fields::saturating_mul(most + 1, under), most);
+    let all = counts::saturating_add(counts::saturating_mul(most + 1, under), most);
     Level {
-        total: fields::bytes_for_max_records(all),
+        total: counts::bytes_for_max_records(all),
         most,
         all,
     }
@@ -105,7 +105,7 @@ impl NodeInfo {
         ensures { λ r. ⌜ r ≡ infoAt «node_size» «record_size» 0 0 ⌝ }
     {
         let most = max_records_leaf(node_size, record_size);
-        let wide = fields::bytes_for_max_records(most);
+        let wide = counts::bytes_for_max_records(most);
         let mut max_nrec = [0u64; 33];
         max_nrec[0] = most;
         let mut cum_max_nrec = [0u64; 33];

@@ -225,7 +225,7 @@ impl BTreeV2Plan {
     pub fn new(record_count: u64, record_size: u16, node_size: u32, offset_size: u8) -> PlanAnswer
         ensures { λ r. ⌜ planAnswerOf r ≡ planAnswer «record_count» «record_size» «node_size» «offset_size» ⌝ }
     {
-        if fields::is_field_size(offset_size) {
+        if counts::is_field_size(offset_size) {
             let laid = lay_out(record_count, record_size, node_size, offset_size);
             laid.answer
         } else {

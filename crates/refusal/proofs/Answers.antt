@@ -62,6 +62,16 @@ refused-is (DepthAboveLimit depth) = (_, _, refl, lit≤ tt, lit< tt)
 pub cells-more : (r : Refusal) (m : ℕ) → cells (m + 3) (refusalOf r) ≡ cells 3 (refusalOf r) ++ replicate m 0
 cells-more r m = let s = refused-is r in rw (s .2) (more m (s .0) (s .1) (s .3))
 
+pub told-more : (r : Refusal) (m : ℕ) {t : List ℕ} → t ≡ cells 3 (refusalOf r) → t ++ replicate m 0 ≡ cells (m + 3) (refusalOf r)
+told-more r m e = rw (cells-more, ← e)
+
+-- What was put has the answer's length, and is the answer y too where that is x.
+pub put-length : (x : Answer) {z : List ℕ} {k : ℕ} → z ≡ cells k x → length z ≡ k
+put-length x e = rw (e, length-cells)
+
+pub put-is : {x y : Answer} {z : List ℕ} {n k : ℕ} → x ≡ y → n ≡ k → z ≡ cells n x → z ≡ cells k y
+put-is e l h = rw (← e, ← l) h
+
 -- What `of_two` gives in an arm is the cause's number and values.
 pub told-is : {s t : Refusal} {n x y a b c : ℕ} → s ≡ t → (a ≡ n) × (b ≡ x) × (c ≡ y) → n ∷ x ∷ y ∷ [] ≡ cells 3 (refusalOf t)
     → a ∷ b ∷ c ∷ [] ≡ cells 3 (refusalOf s)

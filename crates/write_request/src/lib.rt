@@ -105,10 +105,10 @@ pub fn check(request: Request, lengths: Lengths) -> PlanAndTable
     let record_size = request.record_size;
     let offset_size = request.offset_size;
     let length_size = request.length_size;
-    if !fields::is_field_size(offset_size) {
+    if !counts::is_field_size(offset_size) {
         return refuse(Refusal::InvalidOffsetSize(offset_size));
     }
-    if !fields::is_field_size(length_size) {
+    if !counts::is_field_size(length_size) {
         return refuse(Refusal::InvalidLengthSize(length_size));
     }
     let laid = plan::lay_out(record_count, record_size, request.node_size, offset_size);

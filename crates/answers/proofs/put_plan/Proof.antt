@@ -1,7 +1,5 @@
 -- `put_plan`: the figures, or the refusal.
-use mathlib.Core.Path.{ap, sym}
-use Rattle.plan.specs.Planned.{planAnswerOf}
-use Rattle.answers.proofs.Putting.{plan-put, put-is}
+use Rattle.answers.proofs.Putting.{plan-put, plan-refused}
 use borrow.Author.Needs.{needs}
 use Rattle.answers.proofs.put_plan.Statement.{statement}
 use Rattle.answers.proofs.put_plan.Tie as tie
@@ -15,4 +13,4 @@ put-plan-spec =
     (λ c. search needs)
     (λ c κs. search needs)
     (λ c. plan-put (c .before .before .before .planned .given .1))
-    (λ c. put-is (sym (ap planAnswerOf (c .before .before .before .planned2 .given .1))) (c .before .put-refusal-arg .given .0 .1) (c .put-refusal .ensures)))
+    (λ c. plan-refused _ (c .before .before .before .planned2 .given .1) (c .before .told .ensures)))

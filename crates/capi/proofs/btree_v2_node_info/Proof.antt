@@ -1,6 +1,6 @@
 -- `btree_v2_node_info` puts what the table call answers.
 use mathlib.Core.Path.{refl}
-use Rattle.answers.proofs.Putting.{put-is}
+use Rattle.refusal.proofs.Answers.{put-is}
 use borrow.Author.Needs.{needs}
 use Rattle.capi.proofs.btree_v2_node_info.Statement.{statement}
 use Rattle.capi.proofs.btree_v2_node_info.Tie as tie

@@ -1,6 +1,6 @@
 -- `btree_v2_parse` puts what the header reader answers.
 use mathlib.Core.Path.{refl}
-use Rattle.answers.proofs.Putting.{put-is}
+use Rattle.refusal.proofs.Answers.{put-is}
 use borrow.Author.Needs.{needs}
 use Rattle.capi.proofs.btree_v2_parse.Statement.{statement}
 use Rattle.capi.proofs.btree_v2_parse.Tie as tie

@@ -1,6 +1,6 @@
 -- `btree_v2_plan` puts what the planner answers.
 use mathlib.Core.Path.{refl}
-use Rattle.answers.proofs.Putting.{put-is}
+use Rattle.refusal.proofs.Answers.{put-is}
 use borrow.Author.Needs.{needs}
 use Rattle.capi.proofs.btree_v2_plan.Statement.{statement}
 use Rattle.capi.proofs.btree_v2_plan.Tie as tie

@@ -1,5 +1,5 @@
 -- The loop of `clear`: the first i bytes are 0.
-use Rattle.frame.proofs.Frames.{Cleared, cleared-turn, cleared-end}
+use Rattle.fields.proofs.Copying.{Cleared, cleared-turn, cleared-end}
 use Prim.Native.Nat.{_-_}
 use borrow.Author.Needs.{needs}
 use Rattle.frame.proofs.clear.Statement.{statement}

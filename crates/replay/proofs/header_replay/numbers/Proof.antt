@@ -1,6 +1,6 @@
 -- `numbers`: the array keeps its length.
 use mathlib.Core.Path.{sym}
-use Rattle.answers.proofs.Putting.{put-length}
+use Rattle.refusal.proofs.Answers.{put-length}
 use borrow.Author.Needs.{needs}
 use Rattle.replay.proofs.header_replay.numbers.Statement.{statement}
 use Rattle.replay.proofs.header_replay.numbers.Tie as tie

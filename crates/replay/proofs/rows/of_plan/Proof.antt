@@ -1,6 +1,6 @@
 -- `of_plan`: the array keeps its length.
 use mathlib.Core.Path.{sym}
-use Rattle.answers.proofs.Putting.{put-length}
+use Rattle.refusal.proofs.Answers.{put-length}
 use borrow.Author.Needs.{needs}
 use Rattle.replay.proofs.rows.of_plan.Statement.{statement}
 use Rattle.replay.proofs.rows.of_plan.Tie as tie

@@ -1,0 +1,3 @@
+-- The laws that the crate's proofs cite.
+mod Records
+mod Views
