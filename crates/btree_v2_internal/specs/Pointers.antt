@@ -1,4 +1,4 @@
--- An internal node in a file by the sizes of its records and pointers, and the child that a pointer leads to, of every file and every sizes.
+-- An internal node in a file by the sizes of its records and pointers, and the child that a pointer leads to, of every file and all sizes.
 use Prim.Native.Nat.{ℕ, _+_, _%_, min}
 use mathlib.Core.List.{List}
 use Rattle.fields.specs.Numbers.{num}
