@@ -1,113 +1,152 @@
-/* The C functions of the static library libcapi.a: version 2 B-trees of HDF5, written and read. */
+/* Version 2 B-trees of HDF5, written and read: functions, their answers, and the refusals. */
 #ifndef NULDRAFON_BTREE_V2_H
 #define NULDRAFON_BTREE_V2_H
 
 #include <stddef.h>
 #include <stdint.h>
 
-/* The functions that the library holds, a line for each. No others are declared. */
-#define BTREE_V2_HAS_NODE_INFO
-#define BTREE_V2_HAS_PLAN
-#define BTREE_V2_HAS_WRITE
-#define BTREE_V2_HAS_PARSE
-#define BTREE_V2_HAS_COLLECT
-#define BTREE_V2_HAS_LEAF_RECORD
-
 #ifdef __cplusplus
 extern "C" {
 #endif
 
 /*
- * Every function fills its whole answer: first the number of the refusal, 0 where the call is
- * accepted, then the figures or the values of the refusal, then zeros. No pointer is null, even
- * where its length is 0. Memory that a function may write to overlaps no other that it gets, and
- * nothing else uses it during the call. Nothing is kept. Sizes are in bytes.
- *
- * The refusals and their values:
- *    1  the file ends early: end needed (at most 2^64 - 1), length of the file
- *    2  wrong signature
- *    3  header version not 0: version
- *    4  offset size not 2, 4 or 8: size
- *    5  length size not 2, 4 or 8: size
- *    6  checksum differs: stored, computed
- *    7  node size outside 10 to 65536: size
- *    8  record size 0
- *    9  more than 16777215 records: count
- *   10  a needed level holds no record: level
- *   11  a subtree with too few records for its depth
- *   12  record buffer not of record count times record size: its length
- *   13  record count above the length field: count
- *   14  an address above the offset field: start
- *   15  output too short: its length
- *   16  depth above 32: depth
+ * A function fills its whole answer, an array of numbers. First comes the refusal, which is
+ * BTREE_V2_ACCEPTED where the call is accepted; then the figures in the places listed above each
+ * function, or, where the call is refused, the two values of the refusal; then zeros. No pointer is
+ * null, even where its length is 0. Memory that a function may write to overlaps no other that it
+ * gets, and nothing else uses it during the call. Nothing is kept. Sizes are in bytes.
  */
+enum { BTREE_V2_REFUSAL = 0, BTREE_V2_VALUE_1 = 1, BTREE_V2_VALUE_2 = 2 };
 
-#ifdef BTREE_V2_HAS_NODE_INFO
-/*
- * The capacity table up to `depth`. Answer: 0; width of a record count; and for the levels 0 to 32
- * the records of a node, then those of a subtree, then the width of a subtree's total; zeros above
- * `depth`. Refusal: 16.
- */
+/* The refusals; the values that come with one stand in brackets, and the others are 0. */
+enum btree_v2_refusal {
+    BTREE_V2_ACCEPTED = 0,
+    /* The file ends early [end needed, at most 2^64 - 1; length of the file]. */
+    BTREE_V2_FILE_ENDS_EARLY = 1,
+    /* A signature is not the one due. */
+    BTREE_V2_WRONG_SIGNATURE = 2,
+    /* The header's version is not 0 [version]. */
+    BTREE_V2_WRONG_VERSION = 3,
+    /* The offset size is not 2, 4 or 8 [size]. */
+    BTREE_V2_WRONG_OFFSET_SIZE = 4,
+    /* The length size is not 2, 4 or 8 [size]. */
+    BTREE_V2_WRONG_LENGTH_SIZE = 5,
+    /* A checksum differs [stored; computed]. */
+    BTREE_V2_CHECKSUM_DIFFERS = 6,
+    /* The node size is outside 10 to 65536 [size]. */
+    BTREE_V2_WRONG_NODE_SIZE = 7,
+    /* The record size is 0. */
+    BTREE_V2_ZERO_RECORD_SIZE = 8,
+    /* There are more than 16777215 records [count]. */
+    BTREE_V2_TOO_MANY_RECORDS = 9,
+    /* A level that is needed holds no record [level]. */
+    BTREE_V2_LEVEL_HOLDS_NONE = 10,
+    /* A subtree has too few records for its depth. */
+    BTREE_V2_SUBTREE_TOO_THIN = 11,
+    /* The record buffer is not of record count times record size [its length]. */
+    BTREE_V2_WRONG_RECORDS_LENGTH = 12,
+    /* The record count is above the length field's largest number [count]. */
+    BTREE_V2_COUNT_TOO_LARGE = 13,
+    /* Start plus image size is above the offset field's largest number [start]. */
+    BTREE_V2_END_TOO_LARGE = 14,
+    /* An output is too short [its length]. */
+    BTREE_V2_OUTPUT_TOO_SHORT = 15,
+    /* The depth is above 32 [depth]. */
+    BTREE_V2_DEPTH_ABOVE_LIMIT = 16
+};
+
+/* The levels that a capacity table has: 0, that of the leaves, to 32. */
+enum { BTREE_V2_LEVELS = 33 };
+
+/* Places of the answer of btree_v2_node_info; the last three have one for each level. */
+enum {
+    BTREE_V2_NODE_INFO_COUNT_WIDTH = 1,      /* width of a node's record count */
+    BTREE_V2_NODE_INFO_NODE_RECORDS = 2,     /* + level: records that a node holds */
+    BTREE_V2_NODE_INFO_SUBTREE_RECORDS = 35, /* + level: records that a subtree holds */
+    BTREE_V2_NODE_INFO_TOTAL_WIDTH = 68,     /* + level: width of a subtree's record count */
+    BTREE_V2_NODE_INFO_PLACES = 101
+};
+
+/* The capacity table up to `depth`; zeros above it. Refusal: 16. */
 void btree_v2_node_info(uint32_t node_size, uint16_t record_size, uint8_t offset_size,
-                        uint16_t depth, uint64_t answer[101]);
-#endif
+                        uint16_t depth, uint64_t answer[BTREE_V2_NODE_INFO_PLACES]);
 
-#ifdef BTREE_V2_HAS_PLAN
-/*
- * The tree that `record_count` records take. Answer: 0, depth, nodes, leaves, size of the image.
- * Refusals in this order: 4, 7, 8, 9, 10, 11.
- */
+/* Places of the answers of btree_v2_plan and btree_v2_write. */
+enum {
+    BTREE_V2_PLAN_DEPTH = 1,
+    BTREE_V2_PLAN_NODES = 2, /* leaves and internal nodes */
+    BTREE_V2_PLAN_LEAVES = 3,
+    BTREE_V2_PLAN_IMAGE_SIZE = 4,
+    BTREE_V2_PLAN_PLACES = 5
+};
+
+/* The tree that `record_count` records take. Refusals in this order: 4, 7, 8, 9, 10, 11. */
 void btree_v2_plan(uint64_t record_count, uint16_t record_size, uint32_t node_size,
-                   uint8_t offset_size, uint64_t answer[5]);
-#endif
+                   uint8_t offset_size, uint64_t answer[BTREE_V2_PLAN_PLACES]);
 
-#ifdef BTREE_V2_HAS_WRITE
+/* The length of a tree's header. */
+#define BTREE_V2_HEADER_SIZE(offset_size, length_size) (22 + (offset_size) + (length_size))
+
 /*
- * Writes the tree of the records, which stand end to end: its header (22 + `offset_size` +
- * `length_size` bytes) and the image of its nodes, the first of which gets the address `start`.
- * Bytes of longer buffers stay. Answer: as that of the plan. Refusals in this order: 4, 5, 7 to 15,
- * the header's length before the image's; nothing is written then.
+ * Writes the tree of the records, which stand end to end: its header and the image of its nodes,
+ * the first of which gets the address `start`. Bytes of longer buffers stay. The answer is as that
+ * of the plan. Refusals in this order: 4, 5, 7 to 15, the header's length before the image's;
+ * nothing is written then.
  */
 void btree_v2_write(uint8_t tree_type, uint64_t record_count, uint16_t record_size,
                     uint32_t node_size, uint8_t offset_size, uint8_t length_size, uint64_t start,
                     const uint8_t *records, size_t records_length, uint8_t *header,
-                    size_t header_length, uint8_t *image, size_t image_length, uint64_t answer[5]);
-#endif
+                    size_t header_length, uint8_t *image, size_t image_length,
+                    uint64_t answer[BTREE_V2_PLAN_PLACES]);
 
-#ifdef BTREE_V2_HAS_PARSE
-/*
- * Reads the header at `offset` of the file. Answer: 0, tree type, node size, record size, depth,
- * address of the root, records of the root, records in all. Refusals: 1 to 6.
- */
+/* Places of the answer of btree_v2_parse. */
+enum {
+    BTREE_V2_PARSE_TREE_TYPE = 1,
+    BTREE_V2_PARSE_NODE_SIZE = 2,
+    BTREE_V2_PARSE_RECORD_SIZE = 3,
+    BTREE_V2_PARSE_DEPTH = 4,
+    BTREE_V2_PARSE_ROOT_ADDRESS = 5,
+    BTREE_V2_PARSE_ROOT_RECORDS = 6,
+    BTREE_V2_PARSE_TOTAL_RECORDS = 7,
+    BTREE_V2_PARSE_PLACES = 8
+};
+
+/* Reads the header at `offset` of the file. Refusals: 1 to 6. */
 void btree_v2_parse(const uint8_t *file, size_t file_length, uint64_t offset, uint8_t offset_size,
-                    uint8_t length_size, uint64_t answer[8]);
-#endif
+                    uint8_t length_size, uint64_t answer[BTREE_V2_PARSE_PLACES]);
 
-#ifdef BTREE_V2_HAS_COLLECT
+/* Places of the answer of btree_v2_collect: counts that are given in a refused call too. */
+enum {
+    BTREE_V2_COLLECT_RECORDS = 3,        /* records put out */
+    BTREE_V2_COLLECT_LEAVES = 4,         /* leaves read */
+    BTREE_V2_COLLECT_INTERNAL_NODES = 5, /* internal nodes read */
+    BTREE_V2_COLLECT_INNER_RECORDS = 6,  /* records put out that are from internal nodes */
+    BTREE_V2_COLLECT_PLACES = 7
+};
+
 /*
  * Puts the records of a tree in the file end to end into the output, in order; the output's other
- * bytes stay. Answer: 0 or the refusal's number; its two values; and, refused or not, records put
- * out, leaves read, internal nodes read, records put out that are from internal nodes. Refusals:
- * 1, 2, 4, 6, 8, 15, 16.
+ * bytes stay. The numbers from `tree_type` to `total_records` are the header's, as btree_v2_parse
+ * gives them. Refusals: 1, 2, 4, 6, 8, 15, 16; the records before it are in the output.
  */
 void btree_v2_collect(const uint8_t *file, size_t file_length, uint8_t tree_type,
                       uint32_t node_size, uint16_t record_size, uint16_t depth,
                       uint64_t root_address, uint16_t root_records, uint64_t total_records,
                       uint8_t offset_size, uint8_t *output, size_t output_length,
-                      uint64_t answer[7]);
-#endif
+                      uint64_t answer[BTREE_V2_COLLECT_PLACES]);
 
-#ifdef BTREE_V2_HAS_LEAF_RECORD
+/* Places of the answer of btree_v2_leaf_record. */
+enum { BTREE_V2_LEAF_RECORD_LENGTH = 1, BTREE_V2_LEAF_RECORD_PLACES = 3 };
+
 /*
  * Copies record `index` of the leaf at `address` of the file, which has `count` records, to the
  * front of the output; the record is empty where `index` is not below `count`. The output's other
- * bytes stay. Answer: 0, length of the record, 0. Refusals in this order: 8, the leaf's as in
- * collecting (1, 2, 1, 6), 15; nothing is written then.
+ * bytes stay. Refusals in this order: 8, the leaf's as in collecting (1, 2, 1, 6), 15; nothing is
+ * written then.
  */
 void btree_v2_leaf_record(const uint8_t *file, size_t file_length, uint64_t address, uint16_t count,
                           uint16_t record_size, uint64_t index, uint8_t *output,
-                          size_t output_length, uint64_t answer[3]);
-#endif
+                          size_t output_length, uint64_t answer[BTREE_V2_LEAF_RECORD_PLACES]);
 
 #ifdef __cplusplus
 }

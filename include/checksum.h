@@ -1,4 +1,4 @@
-/* The C function of the static library libchecksum.a: the lookup3 checksum of HDF5 metadata. */
+/* The lookup3 checksum of HDF5 metadata. */
 #ifndef NULDRAFON_CHECKSUM_H
 #define NULDRAFON_CHECKSUM_H
 
@@ -10,8 +10,8 @@ extern "C" {
 #endif
 
 /*
- * The checksum of `length` bytes at `data`: lookup3.c's hashlittle with start value 0. Any length is
- * accepted, 0 too. `data` is not null, even where `length` is 0, and nothing writes to the bytes
+ * The checksum of `length` bytes at `data`: lookup3.c's hashlittle with start value 0. Any length
+ * is accepted, 0 too. `data` is not null, even where `length` is 0, and nothing writes to the bytes
  * during the call. Nothing is kept and nothing is written.
  */
 uint32_t checksum_jenkins_lookup3(const uint8_t *data, size_t length);
