@@ -1,5 +1,5 @@
 /* The fuzzer's driver: each input goes through the header reader, the collector and the look at a
- * leaf of libcapi.a and through the shadow, and the two must agree in every number and every byte. */
+ * leaf of the C library and through the shadow, which must agree in every number and every byte. */
 #include <inttypes.h>
 #include <stdio.h>
 #include <stdlib.h>
@@ -10,7 +10,7 @@
 #include "lent.h"
 #include "shadow.h"
 
-enum { CAUSES = 17 };
+enum { CAUSES = BTREE_V2_DEPTH_ABOVE_LIMIT + 1 };
 
 /* The places that are lent to the archive: the file, the output and the answer. */
 static struct lent file_place, output_place, answer_place;
@@ -70,35 +70,47 @@ static uint64_t *unset(size_t places, bool at_the_end) {
 }
 
 /* The header read by both. */
-static void parse(struct source s, const uint8_t *front, bool at_the_end, uint64_t due[8]) {
+static void parse(struct source s, const uint8_t *front, bool at_the_end,
+                  uint64_t due[BTREE_V2_PARSE_PLACES]) {
     uint64_t offset = number(front + AT_HEADER, 8);
     uint8_t ow = front[AT_OFFSET_SIZE], lw = front[AT_LENGTH_SIZE];
     shadow_parse(s, offset, ow, lw, due);
     const uint8_t *file = lend(file_place, s.file, s.length, at_the_end);
-    uint64_t *answer = unset(8, at_the_end);
+    uint64_t *answer = unset(BTREE_V2_PARSE_PLACES, at_the_end);
     btree_v2_parse(file, s.length, offset, ow, lw, answer);
-    hold(answer, due, 8 * sizeof *due, "the header");
+    hold(answer, due, BTREE_V2_PARSE_PLACES * sizeof *due, "the header");
     hold(file, s.file, s.length, "the file, after the header was read");
-    parsed[due[0]]++;
+    parsed[due[BTREE_V2_REFUSAL]]++;
 }
 
 /* What the collector is given: the header that was read, or the numbers of the front. */
-static struct tree given(const uint8_t *front, const uint64_t header[8]) {
-    struct tree t = {.offset_size = front[AT_OFFSET_SIZE]};
-    bool by_header = (front[AT_FLAGS] & BY_HEADER) != 0 && header[0] == 0;
-    t.tree_type = by_header ? (uint8_t)header[1] : front[AT_TREE_TYPE];
-    t.node_size = (uint32_t)(by_header ? header[2] : number(front + AT_NODE_SIZE, 4));
-    t.record_size = (uint16_t)(by_header ? header[3] : number(front + AT_RECORD_SIZE, 2));
-    t.depth = (uint16_t)(by_header ? header[4] : number(front + AT_DEPTH, 2));
-    t.root_address = by_header ? header[5] : number(front + AT_ROOT_ADDRESS, 8);
-    t.root_records = (uint16_t)(by_header ? header[6] : number(front + AT_ROOT_RECORDS, 2));
-    t.total_records = by_header ? header[7] : number(front + AT_TOTAL_RECORDS, 8);
-    return t;
+static struct tree given(const uint8_t *front, const uint64_t header[BTREE_V2_PARSE_PLACES]) {
+    if ((front[AT_FLAGS] & BY_HEADER) != 0 && header[BTREE_V2_REFUSAL] == BTREE_V2_ACCEPTED)
+        return (struct tree){
+            .tree_type = (uint8_t)header[BTREE_V2_PARSE_TREE_TYPE],
+            .node_size = (uint32_t)header[BTREE_V2_PARSE_NODE_SIZE],
+            .record_size = (uint16_t)header[BTREE_V2_PARSE_RECORD_SIZE],
+            .depth = (uint16_t)header[BTREE_V2_PARSE_DEPTH],
+            .root_address = header[BTREE_V2_PARSE_ROOT_ADDRESS],
+            .root_records = (uint16_t)header[BTREE_V2_PARSE_ROOT_RECORDS],
+            .total_records = header[BTREE_V2_PARSE_TOTAL_RECORDS],
+            .offset_size = front[AT_OFFSET_SIZE],
+        };
+    return (struct tree){
+        .tree_type = front[AT_TREE_TYPE],
+        .node_size = (uint32_t)number(front + AT_NODE_SIZE, 4),
+        .record_size = (uint16_t)number(front + AT_RECORD_SIZE, 2),
+        .depth = (uint16_t)number(front + AT_DEPTH, 2),
+        .root_address = number(front + AT_ROOT_ADDRESS, 8),
+        .root_records = (uint16_t)number(front + AT_ROOT_RECORDS, 2),
+        .total_records = number(front + AT_TOTAL_RECORDS, 8),
+        .offset_size = front[AT_OFFSET_SIZE],
+    };
 }
 
 /* The tree collected by both. */
 static void collect(struct source s, struct tree t, size_t length, bool at_the_end) {
-    uint64_t due[7];
+    uint64_t due[BTREE_V2_COLLECT_PLACES];
     uint8_t *expected = exact(length);
     uint8_t *output = lend(output_place, expected, length, at_the_end);
     if (s.mend) {
@@ -108,31 +120,32 @@ static void collect(struct source s, struct tree t, size_t length, bool at_the_e
     }
     shadow_collect(s, t, expected, length, due);
     const uint8_t *file = lend(file_place, s.file, s.length, at_the_end);
-    uint64_t *answer = unset(7, at_the_end);
+    uint64_t *answer = unset(BTREE_V2_COLLECT_PLACES, at_the_end);
     btree_v2_collect(file, s.length, t.tree_type, t.node_size, t.record_size, t.depth,
                      t.root_address, t.root_records, t.total_records, t.offset_size, output,
                      length, answer);
     hold(answer, due, sizeof due, "the collecting");
     hold(output, expected, length, "the output");
     hold(file, s.file, s.length, "the file, after the collecting");
-    collected[due[0]]++;
+    collected[due[BTREE_V2_REFUSAL]]++;
     free(expected);
 }
 
 /* The root looked at as a leaf by both: a record below its count, at it, or one behind. */
 static void look(struct source s, struct tree t, size_t length, bool at_the_end) {
-    uint64_t due[3], index = t.total_records % (t.root_records + UINT64_C(2));
+    uint64_t due[BTREE_V2_LEAF_RECORD_PLACES];
+    uint64_t index = t.total_records % (t.root_records + UINT64_C(2));
     uint8_t *expected = exact(length);
     uint8_t *output = lend(output_place, expected, length, at_the_end);
     shadow_leaf_record(s, t, index, expected, length, due);
     const uint8_t *file = lend(file_place, s.file, s.length, at_the_end);
-    uint64_t *answer = unset(3, at_the_end);
+    uint64_t *answer = unset(BTREE_V2_LEAF_RECORD_PLACES, at_the_end);
     btree_v2_leaf_record(file, s.length, t.root_address, t.root_records, t.record_size, index,
                          output, length, answer);
     hold(answer, due, sizeof due, "the look");
     hold(output, expected, length, "the output of the look");
     hold(file, s.file, s.length, "the file, after the look");
-    looked[due[0]]++;
+    looked[due[BTREE_V2_REFUSAL]]++;
     free(expected);
 }
 
@@ -143,7 +156,7 @@ int LLVMFuzzerTestOneInput(const uint8_t *data, size_t size) {
     s.file = exact(s.length);
     if (s.length != 0) memcpy(s.file, data + AT_FILE, s.length);
     bool at_the_end = (data[AT_FLAGS] & AT_THE_END) != 0;
-    uint64_t header[8];
+    uint64_t header[BTREE_V2_PARSE_PLACES];
     if (s.mend) {
         uint64_t offset = number(data + AT_HEADER, 8);
         shadow_parse(s, offset, data[AT_OFFSET_SIZE], data[AT_LENGTH_SIZE], header);

@@ -1,13 +1,15 @@
 #!/usr/bin/env bash
-# Fuzzes the reading calls of libcapi.a: fuzz/run.sh SECONDS PROCESSES. What it makes is in target/fuzz.
+# Fuzzes the reading calls of the C library: fuzz/run.sh SECONDS PROCESSES. What it makes is in
+# target/fuzz.
 set -euo pipefail
 cd "$(dirname "$0")/.."
 seconds=$1 processes=$2
 out=target/fuzz
-archives="target/staticlib/libcapi.a target/staticlib/libchecksum.a"
+library=target/libnuldrafon.a
 flags="-std=c11 -O1 -g -Wall -Wextra -Wshadow -Wconversion -Werror -Iinclude -Ifuzz"
 sanitize="-fsanitize=fuzzer,address"
 
+make --no-print-directory lib
 mkdir -p "$out/corpus"
 probe='int LLVMFuzzerTestOneInput(const char *d, long n) { return d == 0 && n > 0; }'
 if ! clang -x c $sanitize - -o "$out/probe" <<<"$probe" 2>"$out/probe.log"; then
@@ -15,9 +17,9 @@ if ! clang -x c $sanitize - -o "$out/probe" <<<"$probe" 2>"$out/probe.log"; then
     exit 0
 fi
 clang $flags -fsanitize=address -c rust/bench/lookup3.c -o "$out/lookup3.o"
-clang $flags $sanitize fuzz/readers.c fuzz/shadow.c fuzz/lent.c "$out/lookup3.o" $archives \
+clang $flags $sanitize fuzz/readers.c fuzz/shadow.c fuzz/lent.c "$out/lookup3.o" $library \
     -o "$out/readers"
-clang $flags fuzz/seeds.c $archives -o "$out/seeds"
+clang $flags fuzz/seeds.c $library -o "$out/seeds"
 "$out/seeds" "$out/corpus"
 
 # Each process by its own seed; they share what they find.

@@ -8,8 +8,7 @@
 #include "checksum.h"
 #include "input.h"
 
-/* The deepest level, and where the totals' widths stand in the answer of btree_v2_node_info. */
-enum { MOST_FILE = 1 << 15, IMAGE_AT = 48, DEEPEST = 32, AT_TOTALS = 68 };
+enum { MOST_FILE = 1 << 15, IMAGE_AT = 48, DEEPEST = BTREE_V2_LEVELS - 1 };
 
 /* A tree: node size, record size, offset size, length size, records. */
 struct shape {
@@ -38,19 +37,19 @@ static void place(uint8_t *at, uint64_t x, int width) {
 }
 
 /* The front of an input: a tree's figures as the header reader answers them, the header at 0. */
-static void front(const struct shape *s, const uint64_t header[8], int flags) {
+static void front(const struct shape *s, const uint64_t header[BTREE_V2_PARSE_PLACES], int flags) {
     input[AT_FLAGS] = (uint8_t)flags;
     input[AT_OFFSET_SIZE] = s->offset_size;
     input[AT_LENGTH_SIZE] = s->length_size;
     place(input + AT_OUTPUT_LENGTH, s->records * s->record_size, 2);
     place(input + AT_HEADER, 0, 8);
-    input[AT_TREE_TYPE] = (uint8_t)header[1];
-    place(input + AT_NODE_SIZE, header[2], 4);
-    place(input + AT_RECORD_SIZE, header[3], 2);
-    place(input + AT_DEPTH, header[4], 2);
-    place(input + AT_ROOT_ADDRESS, header[5], 8);
-    place(input + AT_ROOT_RECORDS, header[6], 2);
-    place(input + AT_TOTAL_RECORDS, header[7], 8);
+    input[AT_TREE_TYPE] = (uint8_t)header[BTREE_V2_PARSE_TREE_TYPE];
+    place(input + AT_NODE_SIZE, header[BTREE_V2_PARSE_NODE_SIZE], 4);
+    place(input + AT_RECORD_SIZE, header[BTREE_V2_PARSE_RECORD_SIZE], 2);
+    place(input + AT_DEPTH, header[BTREE_V2_PARSE_DEPTH], 2);
+    place(input + AT_ROOT_ADDRESS, header[BTREE_V2_PARSE_ROOT_ADDRESS], 8);
+    place(input + AT_ROOT_RECORDS, header[BTREE_V2_PARSE_ROOT_RECORDS], 2);
+    place(input + AT_TOTAL_RECORDS, header[BTREE_V2_PARSE_TOTAL_RECORDS], 8);
 }
 
 /* Writes the first bytes of the input to a file of the folder; 0 where that went well. */
@@ -68,7 +67,7 @@ static int tree(const char *folder, size_t i, int flags) {
     static uint8_t records[MOST_FILE];
     const struct shape *s = &shapes[i];
     uint8_t *file = input + AT_FILE;
-    uint64_t answer[5], header[8];
+    uint64_t answer[BTREE_V2_PLAN_PLACES], header[BTREE_V2_PARSE_PLACES];
     size_t length = s->records * s->record_size;
     for (size_t j = 0; j < length; j++) records[j] = (uint8_t)(j * 7 + i);
     memset(file, 0, MOST_FILE);
@@ -76,17 +75,19 @@ static int tree(const char *folder, size_t i, int flags) {
                    IMAGE_AT, records, length, file, IMAGE_AT, file + IMAGE_AT,
                    MOST_FILE - IMAGE_AT, answer);
     btree_v2_parse(file, MOST_FILE, 0, s->offset_size, s->length_size, header);
-    if (answer[0] != 0 || header[0] != 0) return 1;
+    if (answer[BTREE_V2_REFUSAL] != 0 || header[BTREE_V2_REFUSAL] != 0) return 1;
     front(s, header, flags);
-    return save(folder, "tree", i, flags, AT_FILE + IMAGE_AT + answer[4]);
+    return save(folder, "tree", i, flags, AT_FILE + IMAGE_AT + answer[BTREE_V2_PLAN_IMAGE_SIZE]);
 }
 
 /* One node of each level, each with one record and both pointers to the node below; no header. */
 static int tower(const char *folder, size_t i, int flags) {
     const struct shape *s = &towers[i];
     uint8_t *file = input + AT_FILE, *at = file;
-    uint64_t table[101], below = 0;
+    uint64_t table[BTREE_V2_NODE_INFO_PLACES], below = 0;
     btree_v2_node_info(s->node_size, s->record_size, s->offset_size, DEEPEST, table);
+    const uint64_t count_width = table[BTREE_V2_NODE_INFO_COUNT_WIDTH];
+    const uint64_t *total_width = table + BTREE_V2_NODE_INFO_TOTAL_WIDTH;
     memset(file, 0, MOST_FILE);
     for (int level = 0; level <= DEEPEST; level++) {
         uint8_t *node = at;
@@ -94,14 +95,15 @@ static int tower(const char *folder, size_t i, int flags) {
         at += 6 + s->record_size;
         for (int child = 0; level > 0 && child < 2; child++) {
             place(at, below, s->offset_size);
-            place(at + s->offset_size, 1, (int)table[1]);
-            at += s->offset_size + table[1] + table[AT_TOTALS + level - 1];
+            place(at + s->offset_size, 1, (int)count_width);
+            at += s->offset_size + count_width + total_width[level - 1];
         }
         place(at, checksum_jenkins_lookup3(node, (size_t)(at - node)), 4);
         at += 4;
         below = (uint64_t)(node - file);
     }
-    uint64_t header[8] = {0, 5, s->node_size, s->record_size, DEEPEST, below, 1, UINT64_MAX};
+    uint64_t header[BTREE_V2_PARSE_PLACES] = {
+        0, 5, s->node_size, s->record_size, DEEPEST, below, 1, UINT64_MAX};
     front(s, header, flags);
     return save(folder, "tower", i, flags, (size_t)(at - input));
 }
