@@ -116,7 +116,10 @@ static size_t read_index(const char *path, uint8_t *output, size_t output_length
 
 int main(int count, char **words) {
     static uint8_t records[BAYS * RECORD_SIZE], back[BAYS * RECORD_SIZE];
-    must(count == 2, "index takes the name of the file to write");
+    if (count != 2) {
+        fputs("usage: index FILE\n", stderr);
+        return 2;
+    }
     make_records(records);
     write_index(words[1], records);
     size_t read = read_index(words[1], back, sizeof back);
