@@ -64,21 +64,24 @@ cd "$work/user"
 there() { pkg-config --version >/dev/null 2>&1; }
 apt() { DEBIAN_FRONTEND=noninteractive timeout 120 apt-get "$@" </dev/null >/dev/null 2>&1; }
 there || { apt update && apt install -y pkg-config; } || true
-if ! there; then
-    echo "C library: not built by pkg-config, since it is not there and cannot be installed"
-    exit 0
+if there; then
+    export PKG_CONFIG_PATH=$work/prefix/lib/pkgconfig
+    cflags=$(pkg-config --cflags nuldrafon) libs=$(pkg-config --libs nuldrafon)
+    folder=$(pkg-config --variable=libdir nuldrafon)
+else
+    echo "C library: pkg-config is not there and cannot be installed, so nuldrafon.pc is not tried"
+    folder=$work/prefix/lib
+    cflags=-I$work/prefix/include libs="-L$folder -lnuldrafon"
 fi
-export PKG_CONFIG_PATH=$work/prefix/lib/pkgconfig
-folder=$(pkg-config --variable=libdir nuldrafon)
 for program in index readme; do
-    gcc -std=c99 -O2 $warn -Wconversion $program.c $(pkg-config --cflags --libs nuldrafon) -o $program-shared
-    gcc -std=c99 -O2 $warn -Wconversion $program.c $(pkg-config --cflags nuldrafon) \
-        "$folder/libnuldrafon.a" -o $program-static
-    readelf -d $program-shared | grep -q 'NEEDED.*libnuldrafon' || failed "$program is not linked to the shared library"
+    compile="gcc -std=c99 -O2 $warn -Wconversion $cflags $program.c"
+    $compile $libs -o $program-shared
+    $compile "$folder/libnuldrafon.a" -o $program-static
+    readelf -d $program-shared | grep -q 'NEEDED.*libnuldrafon' || failed "$program is not shared"
     LD_LIBRARY_PATH=$folder ./$program-shared shared.index >$program-shared.txt || failed "$program, shared"
     ./$program-static static.index >$program-static.txt || failed "$program, static"
     cmp $program-shared.txt $program-static.txt || failed "$program, shared and static"
 done
 cmp shared.index static.index || failed "the files of both"
 cmp readme.txt readme-static.txt || failed "README's example"
-echo "C library: installed; by pkg-config examples/index.c built and run, shared and static"
+echo "C library: installed; examples/index.c built and run, with the shared and the static library"
