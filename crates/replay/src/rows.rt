@@ -1,23 +1,29 @@
 // The numbers of a stored row, and how they are held against those that a call gives.
 ghost use mathlib.Core.Path.{_≡_};
 ghost use mathlib.Core.Bool.{true};
-ghost use Prim.Native.Nat.{ℕ, _+_, _≤_, _<_};
+ghost use Prim.Native.Nat.{ℕ, _+_, _%_, _≤_, _<_};
 ghost use lib.ListN.{length, getD};
 use plan::PlanAnswer;
 
 // Every byte of a lent output before the call.
 pub(crate) const MARK: u8 = 238;
 
-// A stored number as a byte. None of these three changes a number that is in the lists.
-pub(crate) fn byte(number: u64) -> u8 {
+// A stored number as a byte, and as a number of 16 and of 32 bits. None of these three changes a number that is in the lists.
+pub(crate) fn byte(number: u64) -> u8
+    ensures { λ r. ⌜ r ≡ number % 256 ⌝ }
+{
     (number % 256) as u8
 }
 
-pub(crate) fn number16(number: u64) -> u16 {
+pub(crate) fn number16(number: u64) -> u16
+    ensures { λ r. ⌜ r ≡ number % 65536 ⌝ }
+{
     (number % 65536) as u16
 }
 
-pub(crate) fn number32(number: u64) -> u32 {
+pub(crate) fn number32(number: u64) -> u32
+    ensures { λ r. ⌜ r ≡ number % 4294967296 ⌝ }
+{
     (number % 4294967296) as u32
 }
 
