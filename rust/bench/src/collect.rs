@@ -6,7 +6,7 @@ use differential::compare::rust;
 use differential::compare::sample::{Sample, Sizes};
 use differential::random::Random;
 use differential::rattle::Rattle;
-use differential::subject::{Call, Subject};
+use differential::subject::Subject;
 
 use crate::cases::{trees, Case, INPUT};
 use crate::header::Header;
@@ -15,9 +15,6 @@ use crate::timing::{Contender, Section};
 
 /// Gives the headers of the files that were read.
 pub fn run() -> Vec<Header> {
-    if Rattle.is_model(Call::Collect) {
-        return Vec::new();
-    }
     let title = "Collect, nanoseconds a record; the Rust makes a vector for each record";
     let mut section = Section::new(title, &INPUT);
     let mut headers = Vec::new();

@@ -4,7 +4,7 @@ use std::hint::black_box;
 
 use differential::compare::sample::Sample;
 use differential::rattle::Rattle;
-use differential::subject::{Call, Subject, Tree};
+use differential::subject::{Subject, Tree};
 
 use crate::cases::{Case, INPUT};
 use crate::timing::{Contender, Section};
@@ -31,9 +31,6 @@ impl Header {
 }
 
 pub fn run(headers: &[Header]) {
-    if Rattle.is_model(Call::Parse) {
-        return;
-    }
     let mut section = Section::new("Header read, nanoseconds a call", &INPUT);
     for header in headers {
         time(&mut section, header);

@@ -4,15 +4,12 @@ use std::hint::black_box;
 
 use differential::compare::rust;
 use differential::rattle::Rattle;
-use differential::subject::{Call, Subject};
+use differential::subject::Subject;
 
 use crate::cases::{plans, INPUT};
 use crate::timing::{Contender, Section};
 
 pub fn run() {
-    if Rattle.is_model(Call::Plan) {
-        return;
-    }
     let mut section = Section::new("Plan, nanoseconds a call", &INPUT);
     for case in plans() {
         let (count, geometry) = (case.record_count, case.geometry);

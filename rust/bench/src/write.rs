@@ -8,15 +8,12 @@ use differential::compare::rust;
 use differential::model;
 use differential::random::Random;
 use differential::rattle::Rattle;
-use differential::subject::{Call, Subject, Writing};
+use differential::subject::{Subject, Writing};
 
 use crate::cases::{trees, Case, INPUT};
 use crate::timing::{Contender, Section};
 
 pub fn run() {
-    if Rattle.is_model(Call::Write) {
-        return;
-    }
     let title = "Write, nanoseconds a record; the buffers of Rattle are ready";
     let mut section = Section::new(title, &INPUT);
     for case in trees() {

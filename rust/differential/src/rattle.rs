@@ -1,8 +1,8 @@
-//! The Rattle functions as a subject. The model stands in for a function that is not offered yet.
+//! The Rattle functions as a subject.
 
-use nuldrafon::btree_v2::{COLLECT, LEAF_RECORD, NODE_INFO, PARSE, PLAN, WRITE};
+use nuldrafon::raw;
 
-use crate::model::{Geometry, Model};
+use crate::model::Geometry;
 use crate::subject::{
     Call, CollectAnswer, Leaf, LeafRecordAnswer, NodeInfoAnswer, ParseAnswer, PlanAnswer, Subject,
     Tree, WriteAnswer, Writing,
@@ -11,22 +11,12 @@ use crate::subject::{
 pub struct Rattle;
 
 impl Subject for Rattle {
-    fn is_model(&self, call: Call) -> bool {
-        match call {
-            Call::NodeInfo => NODE_INFO.is_none(),
-            Call::Plan => PLAN.is_none(),
-            Call::Write => WRITE.is_none(),
-            Call::Parse => PARSE.is_none(),
-            Call::Collect => COLLECT.is_none(),
-            Call::LeafRecord => LEAF_RECORD.is_none(),
-        }
+    fn is_model(&self, _: Call) -> bool {
+        false
     }
 
     fn node_info(&self, geometry: Geometry, depth: u16) -> NodeInfoAnswer {
-        let Some(node_info) = NODE_INFO else {
-            return Model.node_info(geometry, depth);
-        };
-        node_info(
+        raw::node_info(
             geometry.node_size,
             geometry.record_size,
             geometry.offset_size,
@@ -35,10 +25,7 @@ impl Subject for Rattle {
     }
 
     fn plan(&self, record_count: u64, geometry: Geometry) -> PlanAnswer {
-        let Some(plan) = PLAN else {
-            return Model.plan(record_count, geometry);
-        };
-        plan(
+        raw::plan(
             record_count,
             geometry.record_size,
             geometry.node_size,
@@ -47,10 +34,7 @@ impl Subject for Rattle {
     }
 
     fn write(&self, given: &Writing, header: &mut [u8], image: &mut [u8]) -> WriteAnswer {
-        let Some(write) = WRITE else {
-            return Model.write(given, header, image);
-        };
-        write(
+        raw::write(
             given.tree_type,
             given.record_count,
             given.geometry.record_size,
@@ -65,17 +49,11 @@ impl Subject for Rattle {
     }
 
     fn parse(&self, file: &[u8], offset: u64, offset_size: u8, length_size: u8) -> ParseAnswer {
-        let Some(parse) = PARSE else {
-            return Model.parse(file, offset, offset_size, length_size);
-        };
-        parse(file, offset, offset_size, length_size)
+        raw::parse(file, offset, offset_size, length_size)
     }
 
     fn collect(&self, file: &[u8], tree: &Tree, output: &mut [u8]) -> CollectAnswer {
-        let Some(collect) = COLLECT else {
-            return Model.collect(file, tree, output);
-        };
-        collect(
+        raw::collect(
             file,
             tree.tree_type,
             tree.geometry.node_size,
@@ -96,10 +74,7 @@ impl Subject for Rattle {
         index: u64,
         output: &mut [u8],
     ) -> LeafRecordAnswer {
-        let Some(leaf_record) = LEAF_RECORD else {
-            return Model.leaf_record(file, leaf, index, output);
-        };
-        leaf_record(
+        raw::leaf_record(
             file,
             leaf.address,
             leaf.count,
