@@ -2,9 +2,8 @@
 
 use std::hint::black_box;
 
+use differential::calls::typed;
 use differential::compare::rust;
-use differential::rattle::Rattle;
-use differential::subject::Subject;
 
 use crate::cases::{plans, INPUT};
 use crate::timing::{Contender, Section};
@@ -14,7 +13,7 @@ pub fn run() {
     for case in plans() {
         let (count, geometry) = (case.record_count, case.geometry);
         let mut contenders = vec![Contender::new("Rattle", move || {
-            Rattle.plan(black_box(count), geometry)
+            typed::geometry(geometry).plan(black_box(count))
         })];
         if oracle::AVAILABLE {
             contenders.push(Contender::new("Rust", move || {

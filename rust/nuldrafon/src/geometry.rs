@@ -69,6 +69,7 @@ impl Geometry {
     /// assert_eq!(too_small.plan(3), Err(Refusal::LevelHoldsNone(1)));
     /// # Ok::<(), Refusal>(())
     /// ```
+    #[inline]
     pub fn plan(&self, record_count: u64) -> Result<Plan, Refusal> {
         Plan::told(raw::plan(
             record_count,
@@ -107,6 +108,7 @@ impl Geometry {
 
 impl Plan {
     /// The plan that a C function's answer holds.
+    #[inline]
     pub(crate) fn told(answer: [u64; 5]) -> Result<Plan, Refusal> {
         accepted(&answer)?;
         let [_, depth, nodes, leaves, image_size] = answer;

@@ -83,6 +83,7 @@ impl Header {
     /// assert_eq!(refused, Refusal::UnexpectedEof { expected: 22, available: 20 });
     /// # Ok::<(), Refusal>(())
     /// ```
+    #[inline]
     pub fn parse(
         file: &[u8],
         offset: u64,
@@ -151,6 +152,7 @@ impl Header {
     /// # Ok(())
     /// # }
     /// ```
+    #[inline]
     pub fn collect(&self, file: &[u8], output: &mut [u8]) -> Result<Counts, CollectError> {
         let answer = raw::collect(
             file,

@@ -172,6 +172,7 @@ causes! {
 impl Error for Refusal {}
 
 /// Nothing where the answer begins with 0, else the refusal that it tells.
+#[inline]
 pub(crate) fn accepted(answer: &[u64]) -> Result<(), Refusal> {
     match *answer {
         [0, ..] | [] => Ok(()),

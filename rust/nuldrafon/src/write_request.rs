@@ -75,6 +75,7 @@ impl<'a> WriteRequest<'a> {
     /// assert_eq!(refused, Err(Refusal::OutputTooShort(37)));
     /// # Ok::<(), Refusal>(())
     /// ```
+    #[inline]
     pub fn write(&self, header: &mut [u8], image: &mut [u8]) -> Result<Plan, Refusal> {
         Plan::told(raw::write(
             self.tree_type,
