@@ -21,11 +21,16 @@ pub trait Case: Display {
     fn typed(&self, lent: &mut Self::Lent) -> Self::Answer;
     /// The second implementation.
     fn model(&self, lent: &mut Self::Lent) -> Self::Answer;
-    /// How many bytes of each lent buffer an answer says were written; those behind them stay.
-    fn written(&self, answer: &Self::Answer) -> Vec<usize>;
+    /// How many bytes of each lent buffer an answer says were written, none where it is not said;
+    /// those behind them stay.
+    fn written(&self, _answer: &Self::Answer) -> Vec<usize> {
+        Vec::new()
+    }
 
     /// Holds an answer and the buffers after it to the Rust; none where that has no answer.
-    fn hold_to_rust(&self, ours: &Self::Answer, lent: &Self::Lent) -> Option<Held>;
+    fn hold_to_rust(&self, _ours: &Self::Answer, _lent: &Self::Lent) -> Option<Held> {
+        None
+    }
 
     /// Holds what else the crate has for this call to an answer of the C function.
     fn hold_others(&self, _ours: &Self::Answer, _lent: &Self::Lent) -> Held {

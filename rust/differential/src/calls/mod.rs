@@ -65,7 +65,7 @@ impl Part {
 
 /// Every call. A suite holds each case to the model, to the types of the crate nuldrafon, and to
 /// the Rust where that has an answer.
-pub static CALLS: [Call; 6] = [
+pub static CALLS: &[Call] = &[
     Call {
         name: "node_info",
         refusals: &[16],

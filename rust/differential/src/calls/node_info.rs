@@ -67,12 +67,13 @@ impl Case for Table {
     }
 
     fn rattle(&self, _: &mut Self::Lent) -> Self::Answer {
-        let Geometry {
-            node_size,
-            record_size,
-            offset_size,
-        } = self.geometry;
-        raw::node_info(node_size, record_size, offset_size, self.depth)
+        let sizes = self.geometry;
+        raw::node_info(
+            sizes.node_size,
+            sizes.record_size,
+            sizes.offset_size,
+            self.depth,
+        )
     }
 
     fn typed(&self, _: &mut Self::Lent) -> Self::Answer {
@@ -96,10 +97,6 @@ impl Case for Table {
             }
             figures
         }))
-    }
-
-    fn written(&self, _: &Self::Answer) -> Vec<usize> {
-        Vec::new()
     }
 
     fn hold_to_rust(&self, ours: &Self::Answer, _: &Self::Lent) -> Option<Held> {

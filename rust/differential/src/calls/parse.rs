@@ -160,10 +160,6 @@ impl Case for Parsing<'_> {
         array(tree.map(|tree| tree.figures()))
     }
 
-    fn written(&self, _: &Self::Answer) -> Vec<usize> {
-        Vec::new()
-    }
-
     fn hold_to_rust(&self, ours: &Self::Answer, _: &Self::Lent) -> Option<Held> {
         let theirs = rust::parse(self.file, self.offset, self.sizes.0, self.sizes.1);
         Some(same(*ours, theirs, "the Rust", || self.to_string()))

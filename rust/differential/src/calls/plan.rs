@@ -128,12 +128,12 @@ impl Case for Planning {
     }
 
     fn rattle(&self, _: &mut Self::Lent) -> Self::Answer {
-        let Geometry {
-            node_size,
-            record_size,
-            offset_size,
-        } = self.geometry;
-        raw::plan(self.record_count, record_size, node_size, offset_size)
+        raw::plan(
+            self.record_count,
+            self.geometry.record_size,
+            self.geometry.node_size,
+            self.geometry.offset_size,
+        )
     }
 
     fn typed(&self, _: &mut Self::Lent) -> Self::Answer {
@@ -143,10 +143,6 @@ impl Case for Planning {
 
     fn model(&self, _: &mut Self::Lent) -> Self::Answer {
         array(model::plan(self.record_count, self.geometry).map(|plan| plan.figures()))
-    }
-
-    fn written(&self, _: &Self::Answer) -> Vec<usize> {
-        Vec::new()
     }
 
     /// Where 10 or 11 refuses, the Rust says only that there is none; where another number does, it

@@ -9,6 +9,7 @@ pub mod sample;
 mod tally;
 
 use std::fmt::Debug;
+use std::iter::repeat;
 
 use crate::calls::{By, Case};
 use crate::random::Random;
@@ -75,7 +76,8 @@ impl Comparison {
         if let Some(fault) = self.fault {
             (C::faults()[fault].spoil)(case, &mut ours, &mut lent);
         }
-        for (buffer, from) in lent.as_ref().iter().zip(case.written(&ours)) {
+        let written = case.written(&ours).into_iter().chain(repeat(0));
+        for (buffer, from) in lent.as_ref().iter().zip(written) {
             untouched(buffer, from, "a buffer behind what is written", shown)?;
         }
         if self.held_to_model {

@@ -16,7 +16,7 @@ fn noticed(call: &Call, fault: usize, name: &str, by_model: bool) {
 #[test]
 fn wrong_answers() {
     let mut faults = 0;
-    for call in &CALLS {
+    for call in CALLS {
         let of_call = (call.faults)();
         assert!(!of_call.is_empty(), "{}: no faults are tried", call.name);
         for (fault, (name, shown_by)) in of_call.into_iter().enumerate() {

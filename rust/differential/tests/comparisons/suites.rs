@@ -30,7 +30,7 @@ fn suite(name: &'static str, parts: &[Part], refusals: &[u64]) {
 fn of_every_call() {
     rust_is_there();
     thread::scope(|scope| {
-        for call in &CALLS {
+        for call in CALLS {
             scope.spawn(|| suite(call.name, call.suite, call.refusals));
         }
     });
