@@ -8,7 +8,7 @@ use std::sync::Mutex;
 use std::time::{Duration, Instant, SystemTime, UNIX_EPOCH};
 use std::{env, thread};
 
-use differential::calls;
+use differential::calls::{self, Part};
 use differential::checksum::random_lengths;
 use differential::compare::{Comparison, Family};
 use differential::model::lookup3;
@@ -23,9 +23,9 @@ enum Kind {
 }
 use Kind::{Cases, Sums};
 
-/// The parts whose cases differ from seed to seed, by name.
-fn all_parts() -> Vec<(&'static str, Kind)> {
-    let of_calls = calls::parts().filter(|(_, part)| part.soaks);
+/// The checksum's part and those parts of the calls that are asked for, by name.
+fn parts(asked_for: impl Fn(&Part) -> bool) -> Vec<(&'static str, Kind)> {
+    let of_calls = calls::parts().filter(|(_, part)| asked_for(part));
     let of_calls = of_calls.map(|(call, part)| (part.name, Cases(call.name, part.family)));
     [("sums", Sums)].into_iter().chain(of_calls).collect()
 }
@@ -79,7 +79,7 @@ fn soak(time: Duration, threads: usize) {
     let clock = SystemTime::now().duration_since(UNIX_EPOCH);
     let seeds = Mutex::new(Random::new(clock.map_or(0, |past| past.as_nanos() as u64)));
     let next = AtomicUsize::new(0);
-    let parts = all_parts();
+    let parts = parts(|part| part.soaks);
     let all = Mutex::new(vec![[0; 3]; parts.len()]);
     thread::scope(|scope| {
         for _ in 0..threads {
@@ -128,7 +128,9 @@ fn main() {
     rust_is_there();
     match words[..] {
         ["repeat", name, seed] => {
-            let part = all_parts().into_iter().find(|(part, _)| *part == name);
+            let part = parts(|part| part.name == name)
+                .into_iter()
+                .find(|part| part.0 == name);
             let (part, seed) = (part.expect("a part's name"), number(seed).expect("a seed"));
             let [_, cases, _] = run_aloud(part, seed);
             say(&format!("no difference in {cases} cases"));
