@@ -2,7 +2,8 @@
 
 use std::hint::black_box;
 
-use differential::calls::{typed, write::Draft, Case as _};
+use differential::calls::{collect::Collecting, typed, write::Draft, Case as _};
+use differential::compare::sample::Sample;
 use differential::inputs::Writing;
 use nuldrafon::{raw, Header};
 
@@ -15,53 +16,58 @@ const RECORDS: u64 = 1_000;
 pub fn run() {
     let title = "The crate's types and the C functions, nanoseconds a call of 1,000 records";
     let mut section = Section::new(title, &["call"]);
-    let mut row = |call: &str, typed, raw| section.row(&[call.to_string()], 1, vec![typed, raw]);
-    let sample = &sample(&Case::new(USUAL, RECORDS));
-    let (file, at) = (&sample.file[..], sample.header_at as u64);
-    let (ns, rs, ow, lw) = (USUAL.node_size, USUAL.record_size, USUAL.offset_size, 8);
+    let sample = sample(&Case::new(USUAL, RECORDS));
+    plan_and_parse(&mut section, &sample);
+    write_and_collect(&mut section, &sample);
+}
 
+fn plan_and_parse(section: &mut Section, sample: &Sample) {
+    let (file, at) = (&sample.file[..], sample.header_at as u64);
+    let (rs, ns, ow, lw) = (USUAL.record_size, USUAL.node_size, USUAL.offset_size, 8);
     let geometry = typed::geometry(USUAL);
-    row(
-        "plan",
+    let contenders = vec![
         typed_by(|| black_box(geometry).plan(black_box(RECORDS))),
         as_it_is(|| raw::plan(black_box(RECORDS), rs, ns, ow)),
-    );
-    row(
-        "parse",
+    ];
+    section.row(&["plan".to_string()], 1, contenders);
+    let contenders = vec![
         typed_by(|| Header::parse(black_box(file), at, ow, lw)),
         as_it_is(|| raw::parse(black_box(file), at, ow, lw)),
-    );
+    ];
+    section.row(&["parse".to_string()], 1, contenders);
+}
 
-    let given = Writing {
+fn write_and_collect(section: &mut Section, sample: &Sample) {
+    let draft = Draft::exact(Writing {
         tree_type: 5,
         record_count: RECORDS,
         geometry: USUAL,
-        length_size: lw,
+        length_size: 8,
         start: 4_096,
         records: &sample.records,
-    };
-    let (draft, request) = (Draft::exact(given), typed::request(&given));
+    });
+    let request = typed::request(&draft.given);
     let [[mut header, mut image], mut buffers] = [draft.lend(), draft.lend()];
-    row(
-        "write",
+    let contenders = vec![
         typed_by(|| black_box(request).write(&mut header, &mut image)),
         as_it_is(|| black_box(&draft).rattle(&mut buffers)),
-    );
+    ];
+    section.row(&["write".to_string()], 1, contenders);
 
-    let header = typed::header(&sample.tree);
-    let [mut output, mut other] = [(); 2].map(|()| vec![0; sample.records.len()]);
-    let (depth, root, in_root) = (header.depth, header.root_address, header.root_records);
-    row(
-        "collect",
-        typed_by(|| black_box(header).collect(black_box(file), &mut output)),
-        as_it_is(|| {
-            let file = black_box(file);
-            raw::collect(
-                file, 5, ns, rs, depth, root, in_root, RECORDS, ow, &mut other,
-            )
-        }),
-    );
-    assert!(output == sample.records && other == sample.records);
+    let collecting = Collecting {
+        file: &sample.file,
+        tree: &sample.tree,
+        output_length: sample.records.len(),
+        room: 0,
+    };
+    let header = typed::header(collecting.tree);
+    let [[mut output], mut other] = [collecting.lend(), collecting.lend()];
+    let contenders = vec![
+        typed_by(|| black_box(header).collect(black_box(collecting.file), &mut output)),
+        as_it_is(|| black_box(&collecting).rattle(&mut other)),
+    ];
+    section.row(&["collect".to_string()], 1, contenders);
+    assert!(output == sample.records && other[0] == sample.records);
 }
 
 fn typed_by<'a, T>(call: impl FnMut() -> T + 'a) -> Contender<'a> {
@@ -113,6 +119,6 @@ mod tests {
             let taken = taken(&mut || drop(black_box(header.collect_to_vec(&file))));
             assert!(taken.heap > 0 && taken.heap <= file.len() as isize);
         }
-        say("a vector of records takes no more heap than the file is long, whatever the header says");
+        say("a vector of records takes no more heap than the file has bytes");
     }
 }

@@ -46,8 +46,8 @@ fn write(records: &[u8]) -> Result<Vec<u8>, Box<dyn Error>> {
     let (file, plan) = index::write(records)?;
     println!(
         "\nWritten: {} bytes of records, in {} nodes of {} bytes. {} nodes are leaves, which hold\n\
-         records alone; the {} others also say which node to go on with, so that any bay is {} nodes\n\
-         away at most. The file has {} bytes; those beside the index stayed as they were.",
+         records alone; the {} others also say which node to go on with, so that any bay is found\n\
+         in {} nodes at most. The file has {} bytes; those beside the index stayed as they were.",
         records.len(),
         plan.nodes,
         index::GEOMETRY.node_size,

@@ -92,15 +92,14 @@ impl Header {
     ) -> Result<Header, Refusal> {
         let answer = raw::parse(file, offset, offset_size, length_size);
         accepted(&answer)?;
-        let [_, tree_type, node_size, record_size, depth, root_address, root_records, total_records] =
-            answer;
+        let [_, tree_type, node_size, record_size, depth, root_address, in_root, in_all] = answer;
         Ok(Header {
             tree_type: tree_type as u8,
             geometry: Geometry::new(node_size as u32, record_size as u16, offset_size),
             depth: depth as u16,
             root_address,
-            root_records: root_records as u16,
-            total_records,
+            root_records: in_root as u16,
+            total_records: in_all,
         })
     }
 
@@ -137,7 +136,8 @@ impl Header {
     /// use nuldrafon::{Geometry, Header, Refusal, WriteRequest};
     /// # fn main() -> Result<(), Box<dyn std::error::Error>> {
     /// let records: Vec<u8> = (0..64).collect();
-    /// let written = WriteRequest::new(5, Geometry::new(40, 8, 8), 8, 38, &records).write_to_vec()?;
+    /// let request = WriteRequest::new(5, Geometry::new(40, 8, 8), 8, 38, &records);
+    /// let written = request.write_to_vec()?;
     /// let file = [written.header, written.image].concat();
     /// let header = Header::parse(&file, 0, 8, 8)?;
     ///
@@ -182,23 +182,24 @@ impl Header {
     /// The records of the header's tree, in a buffer of their own.
     ///
     /// What is promised, of any header and any file: the answer is that of
-    /// [`collect`](Self::collect) into an output as long as the file: its records and counts, or
-    /// its refusal; the counts of one by [`Refusal::OutputTooShort`] too.
-    /// Every record of a tree has a place of its own in the file, so that is room enough, unless
-    /// nodes are shared: then [`Refusal::OutputTooShort`] tells the file's length, and `collect`
-    /// can be lent a longer output.
+    /// [`collect`](Self::collect) into an output as long as the file, its records and counts or its
+    /// refusal and counts. That is room enough where every record has a place of its own in the
+    /// file. Where a file has nodes that several others point to, its tree can have more records:
+    /// then [`Refusal::OutputTooShort`] tells the file's length, and `collect` can be lent a longer
+    /// output.
     ///
     /// The header's record count is not relied on. Room is taken for as many records as it says,
     /// but for no more bytes than the file has; where the tree turns out to have more, the room is
-    /// doubled, again up to the file's length, and the tree is collected anew. So no more than the
-    /// file's length is ever taken, nor more than the count says or twice what the records take;
-    /// and a tree with the header's count of records or fewer is read once.
+    /// doubled, again up to the file's length, and the tree is collected anew. So the room is never
+    /// longer than the file, nor than the larger of what the count says and twice what the records
+    /// take. A tree with as many records as the count says, or fewer, is read once.
     ///
     /// ```
     /// use nuldrafon::{Geometry, Header, WriteRequest};
     /// # fn main() -> Result<(), Box<dyn std::error::Error>> {
     /// let records: Vec<u8> = (0..64).collect();
-    /// let written = WriteRequest::new(5, Geometry::new(40, 8, 8), 8, 38, &records).write_to_vec()?;
+    /// let request = WriteRequest::new(5, Geometry::new(40, 8, 8), 8, 38, &records);
+    /// let written = request.write_to_vec()?;
     /// let file = [written.header, written.image].concat();
     /// let mut header = Header::parse(&file, 0, 8, 8)?;
     /// let collected = header.collect_to_vec(&file)?;

@@ -149,6 +149,6 @@ fn any_input() {
         }
     }
     say(&format!(
-        "the crate's types: no panic in {ROUNDS} rounds of any input to every function, seed {SEED:#x}"
+        "the crate's types: no panic in {ROUNDS} rounds of any input, seed {SEED:#x}"
     ));
 }
