@@ -50,6 +50,21 @@ pub struct Collected {
 }
 
 /// A refused collecting: why, and what was read and put out before.
+///
+/// ```
+/// use nuldrafon::{Geometry, Header, Refusal};
+/// let mut header = Header::default();
+/// header.geometry = Geometry::new(40, 8, 8);
+/// (header.root_records, header.total_records) = (2, 2);
+/// let error = header.collect_to_vec(b"BTLF").unwrap_err();
+/// assert_eq!(error.counts.records, 0);
+/// assert_eq!(
+///     error.to_string(),
+///     "after 0 records: the file ends too early: 6 bytes are needed, 4 are there"
+/// );
+/// // For callers that want the cause alone.
+/// assert_eq!(Refusal::from(error).number(), 1);
+/// ```
 #[derive(Debug, Clone, Copy, PartialEq, Eq, Hash)]
 pub struct CollectError {
     /// Why the collecting ended.
@@ -60,6 +75,10 @@ pub struct CollectError {
 
 impl Header {
     /// The bytes of a header for offsets and lengths of these sizes.
+    ///
+    /// ```
+    /// assert_eq!(nuldrafon::Header::size(8, 8), 38);
+    /// ```
     pub const fn size(offset_size: u8, length_size: u8) -> usize {
         22 + offset_size as usize + length_size as usize
     }
@@ -105,6 +124,15 @@ impl Header {
 
     /// The header's figures in the order of the C functions: tree type, node size, record size,
     /// depth, address of the root, records of the root, records in all.
+    ///
+    /// ```
+    /// use nuldrafon::{Geometry, Header, Refusal, WriteRequest};
+    /// let request = WriteRequest::new(5, Geometry::new(40, 8, 8), 8, 4_096, &[7; 32]);
+    /// let file = request.write_to_vec()?.header;
+    /// let header = Header::parse(&file, 0, 8, 8)?;
+    /// assert_eq!(header.figures(), [5, 40, 8, 1, 4_176, 1, 4]);
+    /// # Ok::<(), Refusal>(())
+    /// ```
     pub fn figures(&self) -> [u64; 7] {
         [
             self.tree_type.into(),

@@ -102,7 +102,12 @@ calls! {
     ) -> [u64; 3];
 }
 
-/// The lookup3 checksum of `data`, start value 0.
+/// The lookup3 checksum of `data`, start value 0: the one that HDF5 has for its metadata.
+///
+/// ```
+/// assert_eq!(nuldrafon::jenkins_lookup3(b"Four score and seven years ago"), 0x1777_0551);
+/// assert_eq!(nuldrafon::jenkins_lookup3(b""), 0xdead_beef);
+/// ```
 #[inline]
 pub fn jenkins_lookup3(data: &[u8]) -> u32 {
     extern "C" {

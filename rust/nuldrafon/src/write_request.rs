@@ -33,6 +33,13 @@ pub struct Written {
 impl<'a> WriteRequest<'a> {
     /// A request for all records in the buffer, which are as many as its length says. Bytes left
     /// over, fewer than a record has, make the write refused by [`Refusal::RecordBufferLength`].
+    ///
+    /// ```
+    /// use nuldrafon::{Geometry, Refusal, WriteRequest};
+    /// let request = WriteRequest::new(5, Geometry::new(512, 4, 8), 8, 0, b"bay1bay2bay");
+    /// assert_eq!(request.record_count, 2);
+    /// assert_eq!(request.write_to_vec(), Err(Refusal::RecordBufferLength(11)));
+    /// ```
     pub fn new(
         tree_type: u8,
         geometry: Geometry,
