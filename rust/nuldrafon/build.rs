@@ -10,15 +10,17 @@ const ARCHIVES: [&str; 2] = ["capi", "checksum"];
 fn main() {
     println!("cargo::rerun-if-changed=build.rs");
     let package = env::var_os("CARGO_MANIFEST_DIR").expect("cargo sets it");
-    let folder = Path::new(&package).join("../../target/staticlib");
+    let root = Path::new(&package).join("../..");
+    let root = root.canonicalize().unwrap_or(root);
+    let folder = root.join("target/staticlib");
     println!("cargo::rustc-link-search=native={}", folder.display());
     for name in ARCHIVES {
         let archive = folder.join(format!("lib{name}.a"));
         println!("cargo::rerun-if-changed={}", archive.display());
         if !archive.is_file() {
-            println!(
-                "cargo::error=target/staticlib/lib{name}.a is missing: run `rt staticlib {name}`"
-            );
+            let missing = archive.display();
+            let root = root.display();
+            println!("cargo::error={missing} is missing: run `rt staticlib {name}` in {root}");
         }
         println!("cargo::rustc-link-lib=static={name}");
     }
