@@ -8,7 +8,7 @@ use crate::timing::grouped;
 pub const INPUT: [&str; 3] = ["NS/RS/OW", "records", "depth"];
 
 const SMALL: Geometry = Geometry::new(64, 11, 8);
-const USUAL: Geometry = Geometry::new(512, 11, 8);
+pub const USUAL: Geometry = Geometry::new(512, 11, 8);
 const PAGE: Geometry = Geometry::new(4_096, 24, 8);
 const LARGE: Geometry = Geometry::new(65_536, 24, 8);
 const FEW: &[u64] = &[1_000, 100_000, 1_000_000, MOST_RECORDS];
@@ -25,6 +25,14 @@ pub struct Case {
 }
 
 impl Case {
+    pub fn new(geometry: Geometry, record_count: u64) -> Case {
+        Case {
+            geometry,
+            record_count,
+            plan: model::plan(record_count, geometry).expect("the tree is planned"),
+        }
+    }
+
     pub fn input(&self) -> Vec<String> {
         vec![
             self.geometry.to_string(),
@@ -47,9 +55,5 @@ pub fn plans() -> impl Iterator<Item = Case> {
 }
 
 fn of((geometry, counts): (Geometry, &'static [u64])) -> impl Iterator<Item = Case> {
-    counts.iter().map(move |&record_count| Case {
-        geometry,
-        record_count,
-        plan: model::plan(record_count, geometry).expect("the tree is planned"),
-    })
+    counts.iter().map(move |&count| Case::new(geometry, count))
 }

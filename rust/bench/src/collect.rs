@@ -2,11 +2,10 @@
 
 use std::hint::black_box;
 
+use differential::calls::{typed, By};
 use differential::compare::rust;
 use differential::compare::sample::{Sample, Sizes};
 use differential::random::Random;
-use differential::rattle::Rattle;
-use differential::subject::{Call, Subject};
 
 use crate::cases::{trees, Case, INPUT};
 use crate::header::Header;
@@ -15,9 +14,6 @@ use crate::timing::{Contender, Section};
 
 /// Gives the headers of the files that were read.
 pub fn run() -> Vec<Header> {
-    if Rattle.is_model(Call::Collect) {
-        return Vec::new();
-    }
     let title = "Collect, nanoseconds a record; the Rust makes a vector for each record";
     let mut section = Section::new(title, &INPUT);
     let mut headers = Vec::new();
@@ -30,26 +26,27 @@ pub fn run() -> Vec<Header> {
 }
 
 /// A file with the tree.
-fn sample(case: &Case) -> Sample {
+pub fn sample(case: &Case) -> Sample {
     let sizes = Sizes {
         geometry: case.geometry,
         length_size: 8,
         record_count: case.record_count,
     };
-    Sample::new(&Rattle, sizes, false, &mut Random::new(1)).expect("the tree is written")
+    Sample::new(By::Rattle, sizes, false, &mut Random::new(1)).expect("the tree is written")
 }
 
 fn time(section: &mut Section, case: &Case, sample: &Sample) {
     let (file, tree) = (&sample.file[..], &sample.tree);
     let whole = sample.records.len();
     let [mut output, mut plain_output] = [vec![0; whole], vec![0; whole]];
-    let answer = Rattle.collect(file, tree, &mut output);
-    assert_eq!(answer[0], 0, "the tree is accepted");
+    let header = typed::header(tree);
+    let counts = header.collect(file, &mut output);
+    assert!(counts.is_ok(), "the tree is accepted");
     assert_eq!(plain::collect(file, tree, &mut plain_output), Some(whole));
     assert!(output == sample.records && plain_output == sample.records);
     let leaves = plain::leaves(file, tree);
     let mut contenders = vec![Contender::new("Rattle", || {
-        Rattle.collect(black_box(file), tree, &mut output)
+        header.collect(black_box(file), &mut output)
     })];
     if oracle::AVAILABLE {
         contenders.push(Contender::new("Rust", || {

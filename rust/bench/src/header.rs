@@ -3,8 +3,7 @@
 use std::hint::black_box;
 
 use differential::compare::sample::Sample;
-use differential::rattle::Rattle;
-use differential::subject::{Call, Subject, Tree};
+use differential::inputs::Tree;
 
 use crate::cases::{Case, INPUT};
 use crate::timing::{Contender, Section};
@@ -31,9 +30,6 @@ impl Header {
 }
 
 pub fn run(headers: &[Header]) {
-    if Rattle.is_model(Call::Parse) {
-        return;
-    }
     let mut section = Section::new("Header read, nanoseconds a call", &INPUT);
     for header in headers {
         time(&mut section, header);
@@ -43,9 +39,11 @@ pub fn run(headers: &[Header]) {
 fn time(section: &mut Section, header: &Header) {
     let file = &header.bytes[..];
     let (ow, lw) = (header.tree.geometry.offset_size, header.length_size);
-    assert_eq!(Rattle.parse(file, 0, ow, lw)[1..], header.tree.figures());
+    let read = nuldrafon::Header::parse(file, 0, ow, lw);
+    let figures = read.map(|header| header.figures());
+    assert_eq!(figures, Ok(header.tree.figures()));
     let mut contenders = vec![Contender::new("Rattle", move || {
-        Rattle.parse(black_box(file), 0, ow, lw)
+        nuldrafon::Header::parse(black_box(file), 0, ow, lw)
     })];
     if oracle::AVAILABLE {
         contenders.push(Contender::new("Rust", move || {

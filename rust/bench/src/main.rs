@@ -1,5 +1,5 @@
 //! Times the Rattle libraries against the Rust and plain C, in one run on the same inputs, and tells
-//! what each call takes beside the buffers that it is lent.
+//! what each call takes beside the buffers that it is lent. `bench NAME` runs one part alone.
 
 mod cases;
 mod checksum;
@@ -10,19 +10,30 @@ mod memory;
 mod plain;
 mod plan;
 mod timing;
+mod typed;
 mod write;
 
 #[global_allocator]
 static HEAP: memory::Counted = memory::Counted;
+
+/// The parts; the header reader's takes its headers from the collector's files.
+const PARTS: [(&str, fn()); 5] = [
+    ("checksum", checksum::run),
+    ("plan", plan::run),
+    ("write", write::run),
+    ("read", || header::run(&collect::run())),
+    ("types", typed::run),
+];
 
 fn main() {
     machine::say();
     if !oracle::AVAILABLE {
         println!("- {}", oracle::NOT_RUN);
     }
-    checksum::run();
-    plan::run();
-    write::run();
-    let headers = collect::run();
-    header::run(&headers);
+    let named = std::env::args().nth(1);
+    for (name, run) in PARTS {
+        if named.as_deref().is_none_or(|one| one == name) {
+            run();
+        }
+    }
 }

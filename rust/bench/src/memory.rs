@@ -4,6 +4,7 @@ use std::alloc::{GlobalAlloc, Layout, System};
 use std::cell::Cell;
 use std::ffi::c_void;
 use std::sync::atomic::{AtomicIsize, Ordering::Relaxed};
+use std::sync::{Mutex, PoisonError};
 
 /// What a call took.
 pub struct Taken {
@@ -15,8 +16,10 @@ pub struct Taken {
     pub heap: isize,
 }
 
-/// Runs a call on a stack of its own and tells what it took.
+/// Runs a call on a stack of its own, one at a time, and tells what it took.
 pub fn taken(mut call: &mut dyn FnMut()) -> Taken {
+    static ONE: Mutex<()> = Mutex::new(());
+    let _one = ONE.lock().unwrap_or_else(PoisonError::into_inner);
     // What is there without any call.
     let mut nothing: &mut dyn FnMut() = &mut || ();
     let (empty, _) = on_filled_stack(&mut nothing);

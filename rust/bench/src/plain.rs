@@ -2,8 +2,8 @@
 
 use std::ops::Range;
 
+use differential::inputs::Tree;
 use differential::model::Table;
-use differential::subject::Tree;
 
 /// Puts the records into the output and tells how many bytes that is; none if the file is not good
 /// or the output too short.

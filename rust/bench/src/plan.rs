@@ -2,22 +2,18 @@
 
 use std::hint::black_box;
 
+use differential::calls::typed;
 use differential::compare::rust;
-use differential::rattle::Rattle;
-use differential::subject::{Call, Subject};
 
 use crate::cases::{plans, INPUT};
 use crate::timing::{Contender, Section};
 
 pub fn run() {
-    if Rattle.is_model(Call::Plan) {
-        return;
-    }
     let mut section = Section::new("Plan, nanoseconds a call", &INPUT);
     for case in plans() {
         let (count, geometry) = (case.record_count, case.geometry);
         let mut contenders = vec![Contender::new("Rattle", move || {
-            Rattle.plan(black_box(count), geometry)
+            typed::geometry(geometry).plan(black_box(count))
         })];
         if oracle::AVAILABLE {
             contenders.push(Contender::new("Rust", move || {

@@ -2,21 +2,17 @@
 
 use std::hint::black_box;
 
+use differential::calls::typed;
 use differential::compare::bytes::repeated;
 use differential::compare::nodes::Form;
 use differential::compare::rust;
-use differential::model;
+use differential::inputs::Writing;
 use differential::random::Random;
-use differential::rattle::Rattle;
-use differential::subject::{Call, Subject, Writing};
 
 use crate::cases::{trees, Case, INPUT};
 use crate::timing::{Contender, Section};
 
 pub fn run() {
-    if Rattle.is_model(Call::Write) {
-        return;
-    }
     let title = "Write, nanoseconds a record; the buffers of Rattle are ready";
     let mut section = Section::new(title, &INPUT);
     for case in trees() {
@@ -36,14 +32,12 @@ fn time(section: &mut Section, case: &Case) {
         start: 4_096,
         records: &records,
     };
-    let mut header = vec![0; model::header_size(geometry.offset_size, given.length_size)];
-    let mut image = vec![0; case.plan.image_size as usize];
-    let answer = Rattle.write(given, &mut header, &mut image);
-    assert_eq!(answer[0], 0, "{count} records at {geometry} are written");
-    let written = image.clone();
+    let request = typed::request(given);
+    let written = request.write_to_vec().expect("the records are written");
+    let (mut header, mut image, written) = (written.header, written.image.clone(), written.image);
     let nodes = summed(case);
     let mut contenders = vec![Contender::new("Rattle", || {
-        Rattle.write(black_box(given), &mut header, &mut image)
+        black_box(request).write(&mut header, &mut image)
     })];
     if oracle::AVAILABLE {
         let rust = || rust::serialize(black_box(given));

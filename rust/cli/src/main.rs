@@ -1,26 +1,115 @@
-//! Writes the index of an example site into a file image, reads it back and compares, through the
-//! Rattle library. Without its calls for that, prints a checksum.
+//! Writes the index of an example site into a file, reads it back, and shows what damaged copies of
+//! the file get.
 
 mod index;
 mod site;
 
+use std::error::Error;
 use std::process::ExitCode;
 
-use index::Calls;
+use index::NODES_AT;
+use site::Bay;
 
-const PHRASE: &str = "Four score and seven years ago";
+/// The bay whose record is damaged.
+const HIT: &str = "bay 17-04-2";
 
 fn main() -> ExitCode {
-    let Some(calls) = Calls::offered() else {
-        let sum = nuldrafon::jenkins_lookup3(PHRASE.as_bytes());
-        println!("lookup3 of \"{PHRASE}\": {sum:#010x}");
-        return ExitCode::SUCCESS;
-    };
-    match calls.run() {
+    match run() {
         Ok(()) => ExitCode::SUCCESS,
-        Err(difference) => {
-            eprintln!("not equal: {difference}");
+        Err(wrong) => {
+            eprintln!("not as it should be: {wrong}");
             ExitCode::FAILURE
+        }
+    }
+}
+
+fn run() -> Result<(), Box<dyn Error>> {
+    let bays = site::bays();
+    let records: Vec<u8> = bays.iter().flat_map(Bay::record).collect();
+    println!(
+        "The site: {} aisles of {} positions on {} levels, that is {} bays.\n\
+         The index has one record for each bay, {} bytes long: a number made of the bay's name,\n\
+         and where the name is kept.",
+        site::AISLES,
+        site::POSITIONS,
+        site::LEVELS,
+        bays.len(),
+        site::RECORD_SIZE,
+    );
+    let file = write(&records)?;
+    read(&file, &records)?;
+    damage(&file, &bays)
+}
+
+/// Writes the index and says what was made.
+fn write(records: &[u8]) -> Result<Vec<u8>, Box<dyn Error>> {
+    let (file, plan) = index::write(records)?;
+    println!(
+        "\nWritten: {} bytes of records, in {} nodes of {} bytes. {} nodes are leaves, which hold\n\
+         records alone; the {} others also say which node to go on with, so that any bay is found\n\
+         in {} nodes at most. The file has {} bytes; those beside the index stayed as they were.",
+        records.len(),
+        plan.nodes,
+        index::GEOMETRY.node_size,
+        plan.leaves,
+        plan.nodes - plan.leaves,
+        plan.depth + 1,
+        file.len(),
+    );
+    Ok(file)
+}
+
+/// Reads the index back and holds it to what was written.
+fn read(file: &[u8], records: &[u8]) -> Result<(), Box<dyn Error>> {
+    let (header, collected) = index::read(file)?;
+    let counts = collected.counts;
+    println!(
+        "\nRead back: the file says that it has {} records; {} were read, from {} leaves and {}\n\
+         other nodes.",
+        header.total_records, counts.records, counts.leaves, counts.internal_nodes,
+    );
+    if header.total_records != counts.records || collected.records != records {
+        return Err("the records read are not those written".into());
+    }
+    println!(
+        "Compared: all {} bytes are those written, in the same order. No bay is missing, and none\n\
+         was added.",
+        records.len(),
+    );
+    Ok(())
+}
+
+/// Damages copies of the file; each must be refused.
+fn damage(file: &[u8], bays: &[Bay]) -> Result<(), Box<dyn Error>> {
+    let hit = bays
+        .iter()
+        .find(|bay| bay.name == HIT)
+        .ok_or("no such bay")?;
+    let record = hit.record();
+    let nodes = &file[NODES_AT..];
+    let place = nodes.windows(record.len()).position(|part| part == record);
+    let place = NODES_AT + place.ok_or("the bay is not in the index")?;
+
+    let mut flipped = file.to_vec();
+    flipped[place] ^= 1;
+    let mut exchanged = file.to_vec();
+    exchanged.swap(place + 5, place + 6);
+    let cut = &file[..file.len() / 2];
+
+    println!("\nDamaged copies: none is taken for the site, and each is told why.");
+    refused(&format!("one bit of {HIT} is turned"), &flipped)?;
+    refused(&format!("two bytes of {HIT} are exchanged"), &exchanged)?;
+    refused("the copy stopped half way", cut)?;
+    refused("the file is empty", &[])
+}
+
+/// Reads a damaged file and says why it is refused.
+fn refused(what: &str, file: &[u8]) -> Result<(), Box<dyn Error>> {
+    match index::read(file) {
+        Ok(_) => Err(format!("accepted, although {what}").into()),
+        Err(refusal) => {
+            println!("- {what}: refused, {refusal}");
+            Ok(())
         }
     }
 }

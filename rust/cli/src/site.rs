@@ -1,26 +1,26 @@
-//! The example site: its bays, and their records as the index holds them.
+//! The example site: its bays, and the record that the index holds of each.
 
-/// The tree type of an index of names.
+/// HDF5's number for an index of names.
 pub const TREE_TYPE: u8 = 5;
 
 /// A record: the hash of the bay's name (4 bytes, low byte first) and a heap id (7 bytes).
-pub const RECORD_SIZE: usize = 11;
+pub const RECORD_SIZE: u16 = 11;
 
-const AISLES: u32 = 40;
-const POSITIONS: u32 = 30;
-const LEVELS: u32 = 5;
+pub const AISLES: u32 = 40;
+pub const POSITIONS: u32 = 30;
+pub const LEVELS: u32 = 5;
 
-struct Bay {
+pub struct Bay {
+    pub name: String,
     hash: u32,
-    name: String,
     /// Where the name begins in the site's heap, in which the names stand end to end.
     place: u32,
 }
 
 impl Bay {
-    fn record(&self) -> [u8; RECORD_SIZE] {
+    pub fn record(&self) -> [u8; RECORD_SIZE as usize] {
         let length = self.name.len() as u16;
-        let mut record = [0; RECORD_SIZE];
+        let mut record = [0; RECORD_SIZE as usize];
         record[..4].copy_from_slice(&self.hash.to_le_bytes());
         // The heap id: kind 0, the name's place, its length.
         record[5..9].copy_from_slice(&self.place.to_le_bytes());
@@ -29,22 +29,17 @@ impl Bay {
     }
 }
 
-/// The records of all bays end to end, by hash, and by name where hashes are equal.
-pub fn records() -> Vec<u8> {
-    let mut bays = bays();
-    bays.sort_by(|a, b| (a.hash, &a.name).cmp(&(b.hash, &b.name)));
-    bays.iter().flat_map(Bay::record).collect()
-}
-
-fn bays() -> Vec<Bay> {
+/// All bays as the index has them: by hash, and by name where hashes are equal.
+pub fn bays() -> Vec<Bay> {
     let mut bays = Vec::new();
     let mut place = 0;
     for name in names() {
         let hash = nuldrafon::jenkins_lookup3(name.as_bytes());
         let length = name.len() as u32;
-        bays.push(Bay { hash, name, place });
+        bays.push(Bay { name, hash, place });
         place += length;
     }
+    bays.sort_by(|a, b| (a.hash, &a.name).cmp(&(b.hash, &b.name)));
     bays
 }
 

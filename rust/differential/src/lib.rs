@@ -1,10 +1,11 @@
-//! Comparisons of the port with the Rust, and what they share: inputs, stored answers, reports.
+//! Comparisons of the port with the Rust and with a second implementation, and what they share:
+//! inputs, stored answers, reports.
 
+pub mod calls;
 pub mod checksum;
 pub mod compare;
+pub mod inputs;
 pub mod model;
 pub mod random;
-pub mod rattle;
 pub mod report;
 pub mod stored;
-pub mod subject;

@@ -36,7 +36,7 @@ const ATTRIBUTES: Layout = Layout {
 
 /// Holds the trees of a file to its list.
 pub fn file(file: &[u8], sizes: Sizes, trees: &[Tree], entries: &Entries) -> Result<(), Fault> {
-    let kinds: Vec<u8> = trees.iter().map(|tree| tree.header.kind).collect();
+    let kinds: Vec<u8> = trees.iter().map(|tree| tree.header.tree_type).collect();
     let [first, second] = trees else {
         return Err(format!("trees of the types {kinds:?}"));
     };
@@ -49,12 +49,14 @@ pub fn file(file: &[u8], sizes: Sizes, trees: &[Tree], entries: &Entries) -> Res
         true => [first, second],
         false => [second, first],
     };
-    same("types", pair.map(|tree| tree.header.kind), due)?;
+    same("types", pair.map(|tree| tree.header.tree_type), due)?;
     match entries {
         Entries::Links(names) => by_name_and_order(&LINKS, pair, names),
         Entries::Attributes(names) => by_name_and_order(&ATTRIBUTES, pair, names),
         Entries::Chunks(all) => pair.iter().try_for_each(|tree| {
-            let own = all.iter().filter(|chunk| chunk.kind == tree.header.kind);
+            let own = all
+                .iter()
+                .filter(|chunk| chunk.kind == tree.header.tree_type);
             chunks(file, sizes, tree, own.collect())
         }),
     }
@@ -63,7 +65,7 @@ pub fn file(file: &[u8], sizes: Sizes, trees: &[Tree], entries: &Entries) -> Res
 /// By creation order: the listed orders, ascending. By name: the hash of each name, ascending, and
 /// by name where hashes are equal. The key tells which name a record is of.
 fn by_name_and_order(layout: &Layout, pair: [&Tree; 2], names: &[Named]) -> Result<(), Fault> {
-    let record_sizes = pair.map(|tree| tree.header.record_size);
+    let record_sizes = pair.map(|tree| tree.header.geometry.record_size);
     same("record sizes", record_sizes, layout.record_sizes)?;
     let [by_name, by_order] = pair;
     same("records by name", by_name.rows().count(), names.len())?;
@@ -102,7 +104,7 @@ fn chunks(file: &[u8], sizes: Sizes, tree: &Tree, mut due: Vec<&Chunk>) -> Resul
         same("address", address, chunk.address.unwrap_or(address))?;
         let value = chunk.value.to_le_bytes();
         same("chunk", part(file, address, 8)?, &[value, value].concat())?;
-        if tree.header.kind == 11 {
+        if tree.header.tree_type == 11 {
             let (size, mask) = stored.split_at(stored.len() - 4);
             let found = (number(size), number(mask));
             same("size and mask", found, (chunk.size, chunk.mask))?;

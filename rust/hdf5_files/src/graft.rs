@@ -1,10 +1,10 @@
 //! Our header and nodes in the place of the library's, whole or damaged.
 
-use nuldrafon::btree_v2;
+use nuldrafon::{Geometry, WriteRequest};
 
 use crate::bytes::{same, Fault};
 use crate::superblock::{set_end, Sizes};
-use crate::tree::{Header, Tree};
+use crate::tree::Tree;
 
 /// What the library's own nodes are overwritten with.
 const WIPED: u8 = 0x5a;
@@ -35,10 +35,7 @@ pub fn node_sizes(records: u64) -> &'static [u32] {
 /// A tree as the writing call made it.
 pub struct Written {
     pub node_size: u32,
-    pub depth: u64,
-    pub nodes: u64,
-    header: Vec<u8>,
-    image: Vec<u8>,
+    pub tree: nuldrafon::Written,
 }
 
 /// A fault in one of a file's trees.
@@ -96,20 +93,20 @@ pub fn damaged(
     node_size: u32,
 ) -> Result<Vec<u8>, Fault> {
     let mut grafted = file.to_vec();
-    let size = usize::from(tree.header.record_size);
+    let size = tree.record_size();
     let middle = tree.rows().count() / 2 * size;
     let mut records = tree.records.clone();
     match damage {
-        Damage::Changed => records[middle + told_by(tree.header.kind)] ^= 1,
+        Damage::Changed => records[middle + told_by(tree.header.tree_type)] ^= 1,
         Damage::Dropped => drop(records.drain(middle..middle + size)),
         Damage::Swapped => records[middle - size..middle + size].rotate_left(size),
         Damage::LeafUnsummed | Damage::RootUnsummed => {}
     }
     let mut written = write(tree, &records, node_size, sizes, grafted.len() as u64)?;
-    let root = written.image.len() - node_size as usize;
+    let root = written.tree.image.len() - node_size as usize;
     match damage {
-        Damage::LeafUnsummed => written.image[6] ^= 1,
-        Damage::RootUnsummed => written.image[root + 6] ^= 1,
+        Damage::LeafUnsummed => written.tree.image[6] ^= 1,
+        Damage::RootUnsummed => written.tree.image[root + 6] ^= 1,
         _ => {}
     }
     put(&mut grafted, tree, &written);
@@ -129,31 +126,23 @@ fn told_by(kind: u8) -> usize {
 
 /// Whether our header and leaf are the library's, byte for byte; none where there is not one node.
 pub fn equal_leaf(file: &[u8], sizes: Sizes, tree: &Tree) -> Result<Option<bool>, Fault> {
-    let Header {
-        at,
-        node_size,
-        root,
-        depth,
-        records,
-        ..
-    } = tree.header;
-    if depth > 0 || records == 0 {
+    let (header, root) = (&tree.header, tree.header.root_address);
+    if header.depth > 0 || header.total_records == 0 {
         return Ok(None);
     }
-    let ours = write(tree, &tree.records, node_size, sizes, root)?;
+    let ours = write(tree, &tree.records, header.geometry.node_size, sizes, root)?.tree;
     Ok(Some(
-        file[at..].starts_with(&ours.header) && file[root as usize..].starts_with(&ours.image),
+        file[tree.at..].starts_with(&ours.header) && file[root as usize..].starts_with(&ours.image),
     ))
 }
 
 /// The least node size at which the tree's records can be planned.
 fn least(tree: &Tree, sizes: Sizes) -> u32 {
-    let Header {
-        records,
-        record_size,
-        ..
-    } = tree.header;
-    let accepts = |size: &u32| btree_v2::plan(records, record_size, *size, sizes.offset)[0] == 0;
+    let header = &tree.header;
+    let accepts = |size: &u32| {
+        let geometry = Geometry::new(*size, header.geometry.record_size, sizes.offset);
+        geometry.plan(header.total_records).is_ok()
+    };
     (10..=65_536).find(accepts).unwrap_or(65_536)
 }
 
@@ -165,43 +154,22 @@ fn write(
     sizes: Sizes,
     start: u64,
 ) -> Result<Written, Fault> {
-    let Header {
-        kind, record_size, ..
-    } = tree.header;
-    let count = (records.len() / usize::from(record_size)) as u64;
-    let planned = btree_v2::plan(count, record_size, node_size, sizes.offset);
-    let [refusal, depth, nodes, _, size] = planned;
-    same("refusal of the plan", refusal, 0)?;
-    let mut header = vec![0; 22 + usize::from(sizes.offset + sizes.length)];
-    let mut image = vec![0; size as usize];
-    let written = btree_v2::write(
-        kind,
-        count,
-        record_size,
-        node_size,
-        sizes.offset,
-        sizes.length,
-        start,
-        records,
-        &mut header,
-        &mut image,
-    );
-    same("answer of the write", written, planned)?;
-    Ok(Written {
-        node_size,
-        depth,
-        nodes,
-        header,
-        image,
-    })
+    let geometry = Geometry::new(node_size, tree.header.geometry.record_size, sizes.offset);
+    let tree_type = tree.header.tree_type;
+    let request = WriteRequest::new(tree_type, geometry, sizes.length, start, records);
+    let written = request.write_to_vec();
+    let tree = written.map_err(|refusal| format!("writing: {refusal}"))?;
+    let planned = geometry.plan(request.record_count);
+    same("plan of the write", Ok(tree.plan), planned)?;
+    Ok(Written { node_size, tree })
 }
 
 /// Wipes the library's nodes, writes our header over the library's, and our nodes at the end.
 fn put(file: &mut Vec<u8>, tree: &Tree, written: &Written) {
     for at in &tree.nodes {
-        file[*at..*at + tree.header.node_size as usize].fill(WIPED);
+        file[*at..*at + tree.header.geometry.node_size as usize].fill(WIPED);
     }
-    let at = tree.header.at;
-    file[at..at + written.header.len()].copy_from_slice(&written.header);
-    file.extend_from_slice(&written.image);
+    let at = tree.at;
+    file[at..at + written.tree.header.len()].copy_from_slice(&written.tree.header);
+    file.extend_from_slice(&written.tree.image);
 }

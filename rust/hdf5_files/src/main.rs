@@ -121,7 +121,7 @@ impl Real {
         if self.unread() {
             return Ok(all);
         }
-        for node_size in graft::node_sizes(self.trees[0].header.records) {
+        for node_size in graft::node_sizes(self.trees[0].header.total_records) {
             all.push(self.graft(folder, *node_size)?);
         }
         Ok(all)
@@ -142,7 +142,7 @@ impl Real {
 
     /// Has the library change files with our trees, and reads these again. Returns how many.
     fn grow(&self, folder: &Folder) -> Result<usize, Fault> {
-        if self.unread() || self.trees[0].header.records > MOST_GROWN {
+        if self.unread() || self.trees[0].header.total_records > MOST_GROWN {
             return Ok(0);
         }
         let grown = folder.inner("grown")?;
@@ -174,14 +174,15 @@ impl Real {
             let ours: Vec<String> = written
                 .iter()
                 .map(|trees| &trees[i])
-                .map(|w| format!("{}/{}/{}", w.node_size, w.depth, w.nodes))
+                .map(|w| (w.node_size, w.tree.plan))
+                .map(|(size, plan)| format!("{size}/{}/{}", plan.depth, plan.nodes))
                 .collect();
             println!(
                 "{:4} {:8} {:>6} {:5} {:2} {:6} {equal:5}  {}",
-                head.kind,
-                head.records,
+                head.tree_type,
+                head.total_records,
                 format!("{}/{}", sizes.offset, sizes.length),
-                head.node_size,
+                head.geometry.node_size,
                 head.depth,
                 tree.nodes.len(),
                 ours.join(" ")
@@ -192,7 +193,7 @@ impl Real {
 
     /// Damages what is read and what is written; each damage must be noticed. Returns how many.
     fn notices(&mut self, folder: &Folder, made: &Folder) -> Result<usize, Fault> {
-        if self.unread() || !(1..=MOST_DAMAGED).contains(&self.trees[0].header.records) {
+        if self.unread() || !(1..=MOST_DAMAGED).contains(&self.trees[0].header.total_records) {
             return Ok(0);
         }
         let damaged = folder.inner("damaged")?;
@@ -201,7 +202,7 @@ impl Real {
             for damage in DAMAGES {
                 let (sizes, size) = (self.list.sizes, DAMAGED_NODE_SIZE);
                 let bytes = graft::damaged(&self.bytes, sizes, tree, damage, size)?;
-                let variant = format!("{}-{damage:?}", tree.header.kind);
+                let variant = format!("{}-{damage:?}", tree.header.tree_type);
                 self.save(&damaged, &variant, &bytes)?;
                 count += 1;
             }

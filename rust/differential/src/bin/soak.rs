@@ -8,54 +8,28 @@ use std::sync::Mutex;
 use std::time::{Duration, Instant, SystemTime, UNIX_EPOCH};
 use std::{env, thread};
 
+use differential::calls::{self, Part};
 use differential::checksum::random_lengths;
-use differential::compare::{collect, leaf, parse, plan, table, write, Comparison, Family};
+use differential::compare::{Comparison, Family};
 use differential::model::lookup3;
 use differential::random::Random;
-use differential::rattle::Rattle;
 use differential::report::{rust_is_there, say};
-use differential::subject::Call;
 
 /// What a part is made of: cases of a call, or inputs of the checksum.
 #[derive(Clone, Copy)]
 enum Kind {
-    Cases(Call, Family),
+    Cases(&'static str, Family),
     Sums,
 }
 use Kind::{Cases, Sums};
 
-/// The parts whose cases differ from seed to seed.
-const PARTS: [(&str, Kind); 20] = [
-    ("sums", Sums),
-    ("tables", Cases(Call::NodeInfo, table::of_any_numbers)),
-    ("plans", Cases(Call::Plan, plan::of_any_numbers)),
-    ("writes", Cases(Call::Write, write::on_the_grid)),
-    ("boundaries", Cases(Call::Write, write::at_the_boundaries)),
-    ("faults", Cases(Call::Write, write::with_several_faults)),
-    ("headers", Cases(Call::Parse, parse::as_written)),
-    ("damaged-headers", Cases(Call::Parse, parse::damaged)),
-    ("any-headers", Cases(Call::Parse, parse::any_bytes)),
-    ("trees", Cases(Call::Collect, collect::of_any_geometry)),
-    ("cut-trees", Cases(Call::Collect, collect::cut)),
-    ("damaged-trees", Cases(Call::Collect, collect::damaged)),
-    (
-        "made-up",
-        Cases(Call::Collect, collect::with_made_up_headers),
-    ),
-    ("graphs", Cases(Call::Collect, collect::of_random_graphs)),
-    (
-        "large-trees",
-        Cases(Call::Collect, collect::of_many_records),
-    ),
-    ("leaves", Cases(Call::LeafRecord, leaf::of_any_geometry)),
-    ("cut-leaves", Cases(Call::LeafRecord, leaf::cut)),
-    ("damaged-leaves", Cases(Call::LeafRecord, leaf::damaged)),
-    (
-        "made-up-leaves",
-        Cases(Call::LeafRecord, leaf::with_made_up_numbers),
-    ),
-    ("large-leaves", Cases(Call::LeafRecord, leaf::of_many_bytes)),
-];
+/// The checksum's part and those parts of the calls that are asked for, by name.
+fn parts(asked_for: impl Fn(&Part) -> bool) -> Vec<(&'static str, Kind)> {
+    let of_calls = calls::parts().filter(|(_, part)| asked_for(part));
+    let of_calls = of_calls.map(|(call, part)| (part.name, Cases(call.name, part.family)));
+    [("sums", Sums)].into_iter().chain(of_calls).collect()
+}
+
 /// The inputs of the checksum from one seed.
 const SUM_INPUTS: usize = 500;
 
@@ -67,8 +41,8 @@ fn run(kind: Kind, seed: u64) -> Result<Counts, String> {
     let held = || match kind {
         Sums => sums(seed),
         Cases(call, family) => {
-            let mut comparison = Comparison::new(&Rattle, call);
-            comparison.run(&[family], seed)?;
+            let mut comparison = Comparison::new(call);
+            comparison.run([family], seed)?;
             let tally = comparison.tally;
             Ok([1, tally.cases(), tally.with_rust()])
         }
@@ -88,8 +62,7 @@ fn sums(seed: u64) -> Result<Counts, String> {
 }
 
 /// Says each seed before it is used, so that it is known even where the process ends.
-fn run_aloud(turn: usize, seed: u64) -> Counts {
-    let (name, kind) = PARTS[turn % PARTS.len()];
+fn run_aloud((name, kind): (&str, Kind), seed: u64) -> Counts {
     say(&format!("{name} from seed {seed:#018x}"));
     run(kind, seed).unwrap_or_else(|difference| {
         say(&format!("{name} from seed {seed:#018x}: {difference}"));
@@ -106,15 +79,16 @@ fn soak(time: Duration, threads: usize) {
     let clock = SystemTime::now().duration_since(UNIX_EPOCH);
     let seeds = Mutex::new(Random::new(clock.map_or(0, |past| past.as_nanos() as u64)));
     let next = AtomicUsize::new(0);
-    let all = Mutex::new([[0; 3]; PARTS.len()]);
+    let parts = parts(|part| part.soaks);
+    let all = Mutex::new(vec![[0; 3]; parts.len()]);
     thread::scope(|scope| {
         for _ in 0..threads {
             scope.spawn(|| {
                 while begin.elapsed() < time {
-                    let turn = next.fetch_add(1, Relaxed);
+                    let turn = next.fetch_add(1, Relaxed) % parts.len();
                     let seed = seeds.lock().expect("no panic").number();
-                    let counts = run_aloud(turn, seed);
-                    let sums = &mut all.lock().expect("no panic")[turn % PARTS.len()];
+                    let counts = run_aloud(parts[turn], seed);
+                    let sums = &mut all.lock().expect("no panic")[turn];
                     sums.iter_mut()
                         .zip(counts)
                         .for_each(|(sum, more)| *sum += more);
@@ -123,11 +97,11 @@ fn soak(time: Duration, threads: usize) {
         }
     });
     let all = all.into_inner().expect("no panic");
-    tell(&all, begin.elapsed());
+    tell(&parts, &all, begin.elapsed());
 }
 
-fn tell(all: &[Counts; PARTS.len()], taken: Duration) {
-    for ((name, _), [runs, cases, with_rust]) in PARTS.iter().zip(all) {
+fn tell(parts: &[(&str, Kind)], all: &[Counts], taken: Duration) {
+    for ((name, _), [runs, cases, with_rust]) in parts.iter().zip(all) {
         say(&format!(
             "{name}: {cases} cases from {runs} seeds, {with_rust} also held to the Rust"
         ));
@@ -154,9 +128,11 @@ fn main() {
     rust_is_there();
     match words[..] {
         ["repeat", name, seed] => {
-            let turn = PARTS.iter().position(|(part, _)| *part == name);
-            let (turn, seed) = (turn.expect("a part's name"), number(seed).expect("a seed"));
-            let [_, cases, _] = run_aloud(turn, seed);
+            let part = parts(|part| part.name == name)
+                .into_iter()
+                .find(|part| part.0 == name);
+            let (part, seed) = (part.expect("a part's name"), number(seed).expect("a seed"));
+            let [_, cases, _] = run_aloud(part, seed);
             say(&format!("no difference in {cases} cases"));
         }
         [seconds, threads] => {

@@ -3,7 +3,7 @@
 use std::env;
 use std::process::ExitCode;
 
-use differential::model::Model;
+use differential::calls::By;
 use differential::stored::{self, LISTS};
 
 fn main() -> ExitCode {
@@ -22,10 +22,10 @@ fn main() -> ExitCode {
         return ExitCode::FAILURE;
     };
     // The model gives the list, and the Rust what it has of it.
-    if let Err(difference) = list.agrees(&Model) {
+    if let Err(difference) = list.agrees() {
         eprintln!("{difference}");
         return ExitCode::FAILURE;
     }
-    print!("{}", (list.text)(&Model));
+    print!("{}", (list.text)(By::Model));
     ExitCode::SUCCESS
 }

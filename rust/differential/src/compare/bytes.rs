@@ -38,6 +38,12 @@ pub fn same_bytes(ours: &[u8], theirs: &[u8], whose: &str, case: impl Fn() -> St
     ))
 }
 
+/// A file's length and its first bytes, to be shown.
+pub fn beginning(file: &[u8]) -> String {
+    let shown = &file[..file.len().min(300)];
+    format!("{} bytes: {shown:02x?}", file.len())
+}
+
 /// So many bytes, made of one random part over and over.
 pub fn repeated(random: &mut Random, length: usize) -> Vec<u8> {
     let part = random.bytes(length.min((1 << 20) + 7));

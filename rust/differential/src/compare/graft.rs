@@ -2,9 +2,9 @@
 
 use super::grid;
 use super::nodes::{Form, Pointer};
+use crate::inputs::Tree;
 use crate::model::Geometry;
 use crate::random::Random;
-use crate::subject::Tree;
 
 /// Node sizes for counts of one to four bytes; no node is as long.
 const NODE_SIZES: [u32; 5] = [60, 3_000, 300_000, 100_000_000, u32::MAX];

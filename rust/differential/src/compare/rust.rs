@@ -1,9 +1,9 @@
-//! The Rust's answers in the shape of the subjects', as far as it has them.
+//! The Rust's answers in the shape of the C functions', as far as it has them.
 
+use crate::inputs::{Leaf, Tree, Writing};
 use crate::model::{Geometry, LEVEL_LIMIT};
-use crate::subject::{Leaf, NodeInfoAnswer, ParseAnswer, PlanAnswer, Tree, WriteAnswer, Writing};
 
-pub fn node_info(geometry: Geometry, depth: u16) -> NodeInfoAnswer {
+pub fn node_info(geometry: Geometry, depth: u16) -> [u64; 101] {
     let table = oracle::node_info(
         geometry.node_size,
         geometry.record_size,
@@ -21,7 +21,7 @@ pub fn node_info(geometry: Geometry, depth: u16) -> NodeInfoAnswer {
 }
 
 /// An accepted plan's answer; the Rust does not say why it has none.
-pub fn plan(record_count: u64, geometry: Geometry) -> Option<PlanAnswer> {
+pub fn plan(record_count: u64, geometry: Geometry) -> Option<[u64; 5]> {
     let planned = oracle::plan(
         record_count,
         geometry.record_size,
@@ -52,7 +52,7 @@ pub fn serialize(given: &Writing) -> Option<(Vec<u8>, Vec<u8>)> {
 }
 
 /// An accepted write's answer, as far as its bytes tell, with its header and image.
-pub fn write(given: &Writing) -> Option<(WriteAnswer, Vec<u8>, Vec<u8>)> {
+pub fn write(given: &Writing) -> Option<([u64; 5], Vec<u8>, Vec<u8>)> {
     let (header, image) = serialize(given)?;
     let depth = u16::from_le_bytes([header[12], header[13]]);
     let nodes = image.chunks(given.geometry.node_size as usize);
@@ -67,7 +67,7 @@ pub fn write(given: &Writing) -> Option<(WriteAnswer, Vec<u8>, Vec<u8>)> {
     Some((answer, header, image))
 }
 
-pub fn parse(file: &[u8], offset: u64, offset_size: u8, length_size: u8) -> ParseAnswer {
+pub fn parse(file: &[u8], offset: u64, offset_size: u8, length_size: u8) -> [u64; 8] {
     match oracle::parse(file, offset, offset_size, length_size) {
         Ok(header) => [
             0,

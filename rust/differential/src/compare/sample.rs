@@ -4,9 +4,11 @@ use std::ops::Range;
 
 use super::bytes::repeated;
 use super::{grid, rust, Comparison, Held};
+use crate::calls::write::Draft;
+use crate::calls::{By, Case};
+use crate::inputs::{Leaf, Tree, Writing};
 use crate::model::{header_size, plan, Geometry, Plan};
 use crate::random::Random;
-use crate::subject::{Leaf, Subject, Tree, Writing};
 
 /// A file with one tree, and what was written.
 pub struct Sample {
@@ -39,12 +41,7 @@ impl Sizes {
 impl Sample {
     /// A tree of random type and records, written by the Rust where that is asked for and it is
     /// there; none where the write is refused. Header and image come in any order.
-    pub fn new(
-        subject: &dyn Subject,
-        sizes: Sizes,
-        by_rust: bool,
-        random: &mut Random,
-    ) -> Option<Sample> {
+    pub fn new(by: By, sizes: Sizes, by_rust: bool, random: &mut Random) -> Option<Sample> {
         let plan = plan(sizes.record_count, sizes.geometry).ok()?;
         let image_length = plan.image_size as usize;
         let [front, middle, end] = [30, 20, 20].map(|most| random.any_magnitude(most) as usize);
@@ -61,7 +58,7 @@ impl Sample {
             start: image_at as u64,
             records: &records,
         };
-        let (header, image) = written(subject, &given, &plan, by_rust)?;
+        let (header, image) = written(by, &given, &plan, by_rust)?;
         let length = front + header.len() + middle + image.len() + end;
         let mut file = repeated(random, length);
         file[header_at..header_at + header.len()].copy_from_slice(&header);
@@ -115,14 +112,9 @@ impl Sample {
     }
 }
 
-/// The header and the image by the Rust or by the subject. The Rust is not asked where the address
+/// The header and the image by the Rust or by another. The Rust is not asked where the address
 /// of a child does not fit: it would cut the address, and no reader would find the child.
-fn written(
-    subject: &dyn Subject,
-    given: &Writing,
-    plan: &Plan,
-    by_rust: bool,
-) -> Option<(Vec<u8>, Vec<u8>)> {
+fn written(by: By, given: &Writing, plan: &Plan, by_rust: bool) -> Option<(Vec<u8>, Vec<u8>)> {
     if by_rust && oracle::AVAILABLE {
         let root = plan.root_address(given.start, given.geometry);
         let last_child = u128::from(root.saturating_sub(given.geometry.node_size.into()));
@@ -130,13 +122,14 @@ fn written(
         let fits = plan.depth == 0 || last_child >> bits == 0;
         return fits.then(|| rust::serialize(given))?;
     }
-    let mut header = vec![0; header_size(given.geometry.offset_size, given.length_size)];
-    let mut image = vec![0; plan.image_size as usize];
-    let answer = subject.write(given, &mut header, &mut image);
+    let draft = Draft::exact(*given);
+    let mut lent = draft.lend();
+    let answer = by.answer(&draft, &mut lent);
+    let [header, image] = lent;
     (answer[0] == 0).then_some((header, image))
 }
 
-/// Runs a check on every small tree, written by the subject and by the Rust.
+/// Runs a check on every small tree, written by who is compared and by the Rust.
 pub fn for_each(
     to: &mut Comparison,
     random: &mut Random,
@@ -144,16 +137,16 @@ pub fn for_each(
 ) -> Held {
     for sizes in SMALL {
         for by_rust in [false, true] {
-            let sample = Sample::new(to.subject, sizes, by_rust, random);
+            let sample = Sample::new(to.by, sizes, by_rust, random);
             check(to, &mut sample.ok_or("a small tree was refused")?, random)?;
         }
     }
     Ok(())
 }
 
-/// A tree of up to some hundred records at any geometry of the grid, by the subject or the Rust;
+/// A tree of up to some hundred records at any geometry of the grid, by who is compared or the Rust;
 /// none where the write is refused.
-pub fn any(subject: &dyn Subject, random: &mut Random) -> Option<Sample> {
+pub fn any(by: By, random: &mut Random) -> Option<Sample> {
     let geometry = grid::one_of_the_grid(random);
     let mut counts = grid::boundaries(geometry);
     counts.retain(|&count| count <= MOST_RECORDS_OF_ANY);
@@ -165,7 +158,7 @@ pub fn any(subject: &dyn Subject, random: &mut Random) -> Option<Sample> {
             _ => counts[random.up_to(counts.len() as u64 - 1) as usize],
         },
     };
-    Sample::new(subject, sizes, random.up_to(1) == 0, random)
+    Sample::new(by, sizes, random.up_to(1) == 0, random)
 }
 
 const MOST_RECORDS_OF_ANY: u64 = 600;

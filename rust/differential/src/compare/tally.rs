@@ -1,26 +1,23 @@
 //! What was compared: cases by class and answers by number.
 
+use std::collections::BTreeMap;
 use std::fmt;
 
-use crate::subject::Call;
-
-/// The numbers of document 01's refusals, and 0.
-const NUMBERS: usize = 17;
-
 pub struct Tally {
-    call: Call,
+    name: &'static str,
     classes: Vec<(&'static str, u64)>,
-    answers: [u64; NUMBERS],
+    /// The cases that were answered with each number: 0 or that of a refusal.
+    answers: BTreeMap<u64, u64>,
     /// The cases that were held to the Rust too.
     rust: u64,
 }
 
 impl Tally {
-    pub fn new(call: Call) -> Tally {
+    pub fn new(name: &'static str) -> Tally {
         Tally {
-            call,
+            name,
             classes: Vec::new(),
-            answers: [0; NUMBERS],
+            answers: BTreeMap::new(),
             rust: 0,
         }
     }
@@ -31,13 +28,13 @@ impl Tally {
             Some((_, cases)) => *cases += 1,
             None => self.classes.push((class, 1)),
         }
-        self.answers[number as usize] += 1;
+        *self.answers.entry(number).or_default() += 1;
         self.rust += u64::from(with_rust);
     }
 
     /// All cases.
     pub fn cases(&self) -> u64 {
-        self.answers.iter().sum()
+        self.answers.values().sum()
     }
 
     /// The cases that were held to the Rust too.
@@ -47,7 +44,7 @@ impl Tally {
 
     /// Those of the numbers that were never answered.
     pub fn missing(&self, numbers: &[u64]) -> Vec<u64> {
-        let unmet = |&&number: &&u64| self.answers[number as usize] == 0;
+        let unmet = |number: &&u64| !self.answers.contains_key(number);
         numbers.iter().filter(unmet).copied().collect()
     }
 }
@@ -59,18 +56,20 @@ impl fmt::Display for Tally {
             .iter()
             .map(|(class, cases)| format!("{class} {cases}"))
             .collect();
-        let refused: Vec<String> = (1..NUMBERS)
-            .filter(|&number| self.answers[number] != 0)
-            .map(|number| format!("{number}: {}", self.answers[number]))
+        let refused: Vec<String> = self
+            .answers
+            .iter()
+            .filter(|(&number, _)| number != 0)
+            .map(|(number, cases)| format!("{number}: {cases}"))
             .collect();
         write!(
             to,
             "{}: {} cases ({}), {} also held to the Rust; accepted {}, refused by {}",
-            self.call.name(),
+            self.name,
             self.cases(),
             classes.join(", "),
             self.rust,
-            self.answers[0],
+            self.answers.get(&0).unwrap_or(&0),
             refused.join(", "),
         )
     }

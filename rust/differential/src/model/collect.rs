@@ -5,7 +5,7 @@ use super::numbers::get;
 use super::plan::check_offset_size;
 use super::refusal::{self, require, Answer};
 use super::table::{table, Geometry, Table};
-use crate::subject::{Leaf, Tree};
+use crate::inputs::{Leaf, Tree};
 
 /// What every collecting tells, refused or not.
 #[derive(Debug, Clone, Copy, Default, PartialEq, Eq)]

@@ -5,7 +5,7 @@ use super::numbers::get;
 use super::plan::{check_offset_size, field_size};
 use super::refusal::{self, require, Answer};
 use super::table::Geometry;
-use crate::subject::Tree;
+use crate::inputs::Tree;
 
 /// The bytes of a file from an offset on that were found there.
 struct Part<'a> {

@@ -3,7 +3,7 @@
 use super::lookup3::lookup3;
 use super::numbers::get;
 use super::refusal::{self, require, Answer};
-use crate::subject::Leaf;
+use crate::inputs::Leaf;
 
 /// Copies a record to the front of the output; returns its length.
 pub fn leaf_record(file: &[u8], leaf: &Leaf, index: u64, output: &mut [u8]) -> Answer<u64> {

@@ -1,8 +1,7 @@
-//! A second implementation of the six calls, from document 01 alone: plain before quick.
+//! A second implementation of the calls, from document 01 alone: plain before quick.
 //!
 //! It shares no code with the wrapper or the oracle. An answer is accepted figures or a refusal.
 
-mod arrays;
 mod collect;
 mod header;
 mod leaf;
@@ -13,7 +12,6 @@ mod refusal;
 mod table;
 mod write;
 
-pub use arrays::Model;
 pub use collect::{collect, Collected, Counts};
 pub use header::parse;
 pub use leaf::leaf_record;

@@ -138,6 +138,11 @@ pub struct Node {
 }
 
 impl Plan {
+    /// The figures of an answer: depth, nodes, leaves, size of the image.
+    pub fn figures(&self) -> [u64; 4] {
+        [self.depth.into(), self.nodes, self.leaves, self.image_size]
+    }
+
     /// Every node of the plan of so many records, children first and the root last.
     pub fn nodes(&self, record_count: u64) -> Vec<Node> {
         let mut nodes = Vec::new();

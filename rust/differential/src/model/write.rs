@@ -4,7 +4,7 @@ use super::lookup3::lookup3;
 use super::numbers::{largest, put};
 use super::plan::{check_offset_size, children, field_size, planned, Plan};
 use super::refusal::{self, require, Answer};
-use crate::subject::Writing;
+use crate::inputs::Writing;
 
 const VERSION: u8 = 0;
 const SPLIT_PERCENT: u8 = 100;

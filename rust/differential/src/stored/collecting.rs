@@ -2,14 +2,15 @@
 
 use super::images::BEFORE;
 use super::{array, List};
+use crate::calls::collect::Collecting;
+use crate::calls::By;
 use crate::compare::{Comparison, Held};
-use crate::model::{plan, Geometry, Model};
+use crate::inputs::{Tree, Writing};
+use crate::model::{self, plan, Geometry};
 use crate::random::Random;
-use crate::subject::{Call, Subject, Tree, Writing};
 
 pub const LIST: List = List {
     name: "collecting",
-    call: Call::Collect,
     stored: include_str!("../../stored/collecting.txt"),
     text,
     family,
@@ -29,6 +30,17 @@ struct Case {
     output_length: usize,
 }
 
+impl Case {
+    fn collecting(&self) -> Collecting<'_> {
+        Collecting {
+            file: &self.file,
+            tree: &self.tree,
+            output_length: self.output_length,
+            room: 1_000,
+        }
+    }
+}
+
 /// A tree of numbered bytes behind 3 others, without the zeros after its root.
 fn written(geometry: Geometry, record_count: u64) -> Case {
     const FRONT: usize = 3;
@@ -44,7 +56,8 @@ fn written(geometry: Geometry, record_count: u64) -> Case {
         records: &records,
     };
     let mut file = vec![0xaa; FRONT + plan.image_size as usize];
-    Model.write(&given, &mut [0; 38], &mut file[FRONT..]);
+    let written = model::write(&given, &mut [0; 38], &mut file[FRONT..]);
+    written.expect("the sample tree is written");
     let zeros = file.iter().rev().take_while(|&&byte| byte == 0).count();
     file.truncate(file.len() - zeros);
     let tree = Tree {
@@ -109,12 +122,13 @@ const FAULTS: [(u64, Fault); 22] = [
     (4, |case| case.tree.total_records = 0),
 ];
 
-fn text(subject: &dyn Subject) -> String {
+fn text(by: By) -> String {
     let mut rows: Vec<Vec<u64>> = Vec::new();
     let mut bytes: Vec<Vec<u8>> = Vec::new();
     for case in cases() {
-        let mut output = vec![BEFORE; case.output_length];
-        let answer = subject.collect(&case.file, &case.tree, &mut output);
+        let mut lent = [vec![BEFORE; case.output_length]];
+        let answer = by.answer(&case.collecting(), &mut lent);
+        let [output] = lent;
         let mut row = vec![case.file.len() as u64];
         row.extend(case.tree.figures());
         row.extend([case.tree.geometry.offset_size.into(), output.len() as u64]);
@@ -127,8 +141,7 @@ fn text(subject: &dyn Subject) -> String {
 }
 
 fn family(to: &mut Comparison, _: &mut Random) -> Held {
-    cases().iter().try_for_each(|case| {
-        let room = &mut [0; 1_000];
-        to.hold_collect("stored", &case.file, &case.tree, case.output_length, room)
-    })
+    cases()
+        .iter()
+        .try_for_each(|case| to.hold("stored", &case.collecting()))
 }

@@ -1,14 +1,15 @@
 //! The stored list of headers read.
 
 use super::{array, List};
+use crate::calls::parse::Parsing;
+use crate::calls::By;
 use crate::compare::{Comparison, Held};
-use crate::model::{header_size, Geometry, Model};
+use crate::inputs::Writing;
+use crate::model::{self, header_size, Geometry};
 use crate::random::Random;
-use crate::subject::{Call, Subject, Writing};
 
 pub const LIST: List = List {
     name: "headers",
-    call: Call::Parse,
     stored: include_str!("../../stored/headers.txt"),
     text,
     family,
@@ -26,6 +27,16 @@ struct Case {
     sizes: (u8, u8),
 }
 
+impl Case {
+    fn parsing(&self) -> Parsing<'_> {
+        Parsing {
+            file: &self.file,
+            offset: self.offset,
+            sizes: self.sizes,
+        }
+    }
+}
+
 /// A file with a header of 4 records at 40/8 behind so many bytes, and one byte after it.
 fn written(front: usize, offset_size: u8, length_size: u8) -> Vec<u8> {
     let given = Writing {
@@ -37,8 +48,8 @@ fn written(front: usize, offset_size: u8, length_size: u8) -> Vec<u8> {
         records: &[0; 32],
     };
     let mut file = vec![0xaa; front + header_size(offset_size, length_size) + 1];
-    let answer = Model.write(&given, &mut file[front..], &mut [0; 120]);
-    assert_eq!(answer[0], 0, "the sample header is written");
+    let plan = model::write(&given, &mut file[front..], &mut [0; 120]);
+    plan.expect("the sample header is written");
     file
 }
 
@@ -75,7 +86,7 @@ fn cases() -> Vec<Case> {
         .collect()
 }
 
-fn text(subject: &dyn Subject) -> String {
+fn text(by: By) -> String {
     let cases = cases();
     let rows: Vec<Vec<u64>> = cases
         .iter()
@@ -83,7 +94,7 @@ fn text(subject: &dyn Subject) -> String {
             let (offset_size, length_size) = case.sizes;
             let mut row = vec![case.file.len() as u64, case.offset];
             row.extend([offset_size, length_size].map(u64::from));
-            row.extend(subject.parse(&case.file, case.offset, offset_size, length_size));
+            row.extend(by.answer(&case.parsing(), &mut []));
             row
         })
         .collect();
@@ -95,5 +106,5 @@ fn text(subject: &dyn Subject) -> String {
 fn family(to: &mut Comparison, _: &mut Random) -> Held {
     cases()
         .iter()
-        .try_for_each(|case| to.hold_parse("stored", &case.file, case.offset, case.sizes))
+        .try_for_each(|case| to.hold("stored", &case.parsing()))
 }

@@ -1,14 +1,15 @@
 //! The stored list of headers and node images.
 
 use super::{array, List};
-use crate::compare::{Comparison, Draft, Held};
+use crate::calls::write::Draft;
+use crate::calls::By;
+use crate::compare::{Comparison, Held};
+use crate::inputs::Writing;
 use crate::model::Geometry;
 use crate::random::Random;
-use crate::subject::{Call, Subject, Writing};
 
 pub const LIST: List = List {
     name: "images",
-    call: Call::Write,
     stored: include_str!("../../stored/images.txt"),
     text,
     family,
@@ -97,15 +98,14 @@ impl Case {
     }
 }
 
-fn text(subject: &dyn Subject) -> String {
+fn text(by: By) -> String {
     let mut rows: Vec<Vec<u64>> = Vec::new();
     let mut bytes: Vec<Vec<u8>> = Vec::new();
     for (number, case) in CASES.iter().enumerate() {
         let records = case.records();
         let draft = case.draft(number, &records);
-        let mut header = vec![BEFORE; draft.header_length];
-        let mut image = vec![BEFORE; draft.image_length];
-        let answer = subject.write(&draft.given, &mut header, &mut image);
+        let mut lent = [draft.header_length, draft.image_length].map(|length| vec![BEFORE; length]);
+        let answer = by.answer(&draft, &mut lent);
         let mut row = vec![
             draft.given.tree_type.into(),
             case.record_count,
@@ -114,12 +114,12 @@ fn text(subject: &dyn Subject) -> String {
             case.geometry.offset_size.into(),
             case.length_size.into(),
             case.start,
-            header.len() as u64,
-            image.len() as u64,
+            draft.header_length as u64,
+            draft.image_length as u64,
         ];
         row.extend(answer);
         rows.push(row);
-        bytes.extend([header, image]);
+        bytes.extend(lent);
     }
     let rows = array("IMAGE_ROWS", "u64", &rows);
     format!("{LAYOUT}{rows}{}", array("IMAGE_BYTES", "u8", &bytes))
@@ -127,7 +127,7 @@ fn text(subject: &dyn Subject) -> String {
 
 fn family(to: &mut Comparison, _: &mut Random) -> Held {
     for (number, case) in CASES.iter().enumerate() {
-        to.hold_write("stored", &case.draft(number, &case.records()))?;
+        to.hold("stored", &case.draft(number, &case.records()))?;
     }
     Ok(())
 }

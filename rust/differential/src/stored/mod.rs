@@ -6,16 +6,15 @@ pub mod headers;
 pub mod images;
 pub mod plans;
 
+use crate::calls::By;
 use crate::compare::{Comparison, Family, Held};
-use crate::subject::{Call, Subject};
 
 /// A stored list of the answers of one call.
 pub struct List {
     pub name: &'static str,
-    pub call: Call,
     pub stored: &'static str,
-    /// The list as a subject gives it.
-    pub text: fn(&dyn Subject) -> String,
+    /// The list as someone gives it.
+    pub text: fn(By) -> String,
     /// Its inputs as a family of cases.
     pub family: Family,
 }
@@ -23,14 +22,14 @@ pub struct List {
 pub const LISTS: [List; 4] = [plans::LIST, images::LIST, headers::LIST, collecting::LIST];
 
 impl List {
-    /// Holds the subject to the stored list.
-    pub fn hold(&self, subject: &dyn Subject) -> Held {
-        hold_text(&(self.text)(subject), self.stored)
+    /// Holds what someone gives to the stored list.
+    pub fn hold(&self, by: By) -> Held {
+        hold_text(&(self.text)(by), self.stored)
     }
 
-    /// Holds the subject to the Rust and the model on the list's inputs.
-    pub fn agrees(&self, subject: &dyn Subject) -> Held {
-        Comparison::new(subject, self.call).run(&[self.family], 0)
+    /// Holds the model to the Rust on the list's inputs.
+    pub fn agrees(&self) -> Held {
+        Comparison::of_model(self.name).run([self.family], 0)
     }
 }
 

@@ -1,14 +1,14 @@
 //! The stored list of plans.
 
 use super::{array, List};
+use crate::calls::plan::Planning;
+use crate::calls::By;
 use crate::compare::{grid, Comparison, Held};
 use crate::model::{Geometry, MOST_RECORDS};
 use crate::random::Random;
-use crate::subject::{Call, Subject};
 
 pub const LIST: List = List {
     name: "plans",
-    call: Call::Plan,
     stored: include_str!("../../stored/plans.txt"),
     text,
     family,
@@ -45,24 +45,29 @@ const GEOMETRIES: [Geometry; 22] = [
 ];
 
 /// The least counts at the boundaries of each geometry, the most records, and more.
-fn cases() -> impl Iterator<Item = (u64, Geometry)> {
+fn cases() -> impl Iterator<Item = Planning> {
     GEOMETRIES.into_iter().flat_map(|geometry| {
         let last = [MOST_RECORDS, MOST_RECORDS + 1, u64::MAX];
         let counts = grid::boundaries(geometry).into_iter().take(15);
-        counts.chain(last).map(move |count| (count, geometry))
+        counts.chain(last).map(move |record_count| Planning {
+            record_count,
+            geometry,
+            ask_rust: record_count <= 200_000,
+        })
     })
 }
 
-fn text(subject: &dyn Subject) -> String {
+fn text(by: By) -> String {
     let rows: Vec<Vec<u64>> = cases()
-        .map(|(count, geometry)| {
+        .map(|case| {
+            let geometry = case.geometry;
             let mut row = vec![
-                count,
+                case.record_count,
                 geometry.record_size.into(),
                 geometry.node_size.into(),
                 geometry.offset_size.into(),
             ];
-            row.extend(subject.plan(count, geometry));
+            row.extend(by.answer(&case, &mut []));
             row
         })
         .collect();
@@ -70,6 +75,5 @@ fn text(subject: &dyn Subject) -> String {
 }
 
 fn family(to: &mut Comparison, _: &mut Random) -> Held {
-    cases()
-        .try_for_each(|(count, geometry)| to.hold_plan("stored", count, geometry, count <= 200_000))
+    cases().try_for_each(|case| to.hold("stored", &case))
 }

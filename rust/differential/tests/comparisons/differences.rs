@@ -2,11 +2,12 @@
 
 use std::panic::{catch_unwind, AssertUnwindSafe};
 
+use differential::calls::typed;
 use differential::compare::rust;
-use differential::model::{Geometry, Model};
-use differential::rattle::Rattle;
+use differential::inputs::{Leaf, Tree, Writing};
+use differential::model::Geometry;
 use differential::report::with_rust;
-use differential::subject::{Leaf, Subject, Tree, Writing};
+use nuldrafon::{LeafView, Refusal};
 
 /// A write of zeros.
 fn zeros(records: &[u8], record_count: u64, geometry: Geometry) -> Writing<'_> {
@@ -22,8 +23,9 @@ fn zeros(records: &[u8], record_count: u64, geometry: Geometry) -> Writing<'_> {
 
 /// The number and the first value of the refusal of a write into long buffers.
 fn refused(given: &Writing) -> (u64, u64) {
-    let answer = Rattle.write(given, &mut [0; 38], &mut vec![0; 1 << 20]);
-    (answer[0], answer[1])
+    let written = typed::request(given).write(&mut [0; 38], &mut vec![0; 1 << 20]);
+    let refusal = written.expect_err("the write is refused");
+    (refusal.number(), refusal.values()[0])
 }
 
 /// What the Rust writes.
@@ -85,7 +87,8 @@ fn plans() {
             (8, 0, Geometry::new(40, 0, 8)),
             (9, most + 1, Geometry::new(65_536, 24, 8)),
         ] {
-            assert_eq!(Rattle.plan(count, geometry)[0], number);
+            let planned = typed::geometry(geometry).plan(count);
+            assert_eq!(planned.map_err(|refusal| refusal.number()), Err(number));
             assert!(
                 rust::plan(count, geometry).is_some(),
                 "{count} at {geometry}"
@@ -95,11 +98,10 @@ fn plans() {
 }
 
 /// A leaf without records.
-fn empty_leaf() -> [u8; 40] {
-    let mut leaf = [0; 40];
+fn empty_leaf() -> Vec<u8> {
     let empty = zeros(&[], 0, Geometry::new(40, 8, 8));
-    assert_eq!(Model.write(&empty, &mut [0; 38], &mut leaf)[0], 0);
-    leaf
+    let written = typed::request(&empty).write_to_vec();
+    written.expect("an empty tree is written").image
 }
 
 #[test]
@@ -114,13 +116,16 @@ fn collecting() {
             total_records: 3,
         };
         let leaf = empty_leaf();
-        assert_eq!(Rattle.collect(&leaf, &tree, &mut [])[0], 8);
+        let refused = |tree: &Tree| {
+            let collected = typed::header(tree).collect(&leaf, &mut []);
+            collected.expect_err("the tree is refused").refusal
+        };
+        assert_eq!(refused(&tree), Refusal::ZeroRecordSize);
         assert_eq!(rust::collect_apart(&leaf, &tree), Ok(vec![vec![]; 3]));
 
         tree.geometry.record_size = 8;
         tree.depth = 33;
-        let answer = Rattle.collect(&leaf, &tree, &mut []);
-        assert_eq!((answer[0], answer[1]), (16, 33));
+        assert_eq!(refused(&tree), Refusal::DepthAboveLimit(33));
         assert_eq!(rust::collect(&leaf, &tree), Err([2, 0, 0]));
     });
 }
@@ -134,7 +139,8 @@ fn looks_at_a_leaf() {
             count: 3,
             record_size: 0,
         };
-        assert_eq!(Rattle.leaf_record(&file, &leaf, 0, &mut []), [8, 0, 0]);
+        let view = LeafView::new(&file, 0, 3, 0);
+        assert_eq!(view, Err(Refusal::ZeroRecordSize));
         assert_eq!(rust::leaf(&file, &leaf), Ok(vec![vec![]; 3]));
     });
 }

@@ -1,12 +1,11 @@
 //! Document 01's figures to hold against, all of them.
 
 use differential::compare::nodes::Form;
-use differential::model::{self, Geometry};
-use differential::rattle::Rattle;
+use differential::model;
 use differential::report::say;
-use differential::subject::{Leaf, PlanAnswer, Subject, Tree, WriteAnswer, Writing};
+use nuldrafon::raw;
 
-const G40: Geometry = Geometry::new(40, 8, 8);
+const G40: model::Geometry = model::Geometry::new(40, 8, 8);
 
 /// The records of a write: every byte of record r is r + 1.
 fn numbered(count: u64, size: u16) -> Vec<u8> {
@@ -14,45 +13,34 @@ fn numbered(count: u64, size: u16) -> Vec<u8> {
     records.collect::<Vec<_>>().concat()
 }
 
-/// A write of such records into buffers of the given lengths.
+/// A write of such records, with node, record, offset and length size, into two buffers.
 fn write(
     count: u64,
-    geometry: Geometry,
-    length_size: u8,
+    (ns, rs, ow, lw): (u32, u16, u8, u8),
     start: u64,
     (header, image): (&mut [u8], &mut [u8]),
-) -> WriteAnswer {
-    let given = Writing {
-        tree_type: 5,
-        record_count: count,
-        geometry,
-        length_size,
-        start,
-        records: &numbered(count, geometry.record_size),
-    };
-    Rattle.write(&given, header, image)
+) -> [u64; 5] {
+    let records = numbered(count, rs);
+    raw::write(5, count, rs, ns, ow, lw, start, &records, header, image)
 }
 
 #[test]
 fn widths_and_tables() {
-    let width = |leaf_capacity: u32| {
-        let geometry = Geometry::new(10 + leaf_capacity, 1, 8);
-        Rattle.node_info(geometry, 0)[1]
-    };
+    let width = |leaf_capacity: u32| raw::node_info(10 + leaf_capacity, 1, 8, 0)[1];
     assert_eq!([0, 255, 256, 65_535, 65_536].map(width), [1, 1, 2, 2, 3]);
 
-    let table = Rattle.node_info(Geometry::new(512, 11, 8), 3);
+    let table = raw::node_info(512, 11, 8, 3);
     let (m, c) = (&table[2..], &table[2 + 33..]);
     assert_eq!(m[..5], [45, 24, 22, 22, 0]);
     assert_eq!(c[..5], [45, 1_149, 26_449, 608_349, 0]);
-    assert_eq!(Rattle.node_info(G40, 2)[2 + 33..][..3], [3, 7, 15]);
+    assert_eq!(raw::node_info(40, 8, 8, 2)[2 + 33..][..3], [3, 7, 15]);
     say("figures: widths and tables");
 }
 
 #[test]
 fn plans() {
-    let plan = |ns, rs, n| Rattle.plan(n, Geometry::new(ns, rs, 8));
-    let refused = |number, value| -> PlanAnswer { [number, value, 0, 0, 0] };
+    let plan = |ns, rs, n| raw::plan(n, rs, ns, 8);
+    let refused = |number, value| [number, value, 0, 0, 0];
     assert_eq!(plan(40, 8, 3), [0, 0, 1, 1, 40]);
     assert_eq!(plan(40, 8, 4), [0, 1, 3, 2, 120]);
     assert_eq!(plan(40, 8, 8), [0, 2, 7, 4, 280]);
@@ -88,12 +76,12 @@ fn records_of_nodes(image: &[u8], records: &[usize]) -> Vec<Vec<u8>> {
 fn images() {
     let (mut header, mut image) = ([0; 38], [0; 280]);
     let buffers = (&mut header[..], &mut image[..120]);
-    assert_eq!(write(4, G40, 8, 0, buffers), [0, 1, 3, 2, 120]);
+    assert_eq!(write(4, (40, 8, 8, 8), 0, buffers), [0, 1, 3, 2, 120]);
     let nodes = records_of_nodes(&image[..120], &[2, 1, 1]);
     assert_eq!(nodes, [vec![0, 1], vec![3], vec![2]]);
 
     let buffers = (&mut header[..], &mut image[..]);
-    assert_eq!(write(8, G40, 8, 0, buffers), [0, 2, 7, 4, 280]);
+    assert_eq!(write(8, (40, 8, 8, 8), 0, buffers), [0, 2, 7, 4, 280]);
     let nodes = records_of_nodes(&image, &[2, 1, 1, 1, 1, 1, 1]);
     let expected = [
         vec![0, 1],
@@ -111,10 +99,10 @@ fn images() {
 #[test]
 fn headers() {
     for (offset_size, length_size, length) in [(8, 8, 38), (2, 2, 26)] {
-        let geometry = Geometry::new(40, 8, offset_size);
         let write_in = |header_length| {
             let (mut header, mut image) = (vec![0; header_length], [0; 40]);
-            write(1, geometry, length_size, 0, (&mut header, &mut image))
+            let sizes = (40, 8, offset_size, length_size);
+            write(1, sizes, 0, (&mut header, &mut image))
         };
         assert_eq!(write_in(length), [0, 0, 1, 1, 40]);
         assert_eq!(write_in(length - 1), [15, length as u64 - 1, 0, 0, 0]);
@@ -127,14 +115,14 @@ fn headers() {
 fn starts_and_counts() {
     let start = |start| {
         let buffers = (&mut [0; 26][..], &mut [0; 120][..]);
-        write(4, Geometry::new(40, 8, 2), 2, start, buffers)
+        write(4, (40, 8, 2, 2), start, buffers)
     };
     assert_eq!(start(65_415), [0, 1, 3, 2, 120]);
     assert_eq!(start(65_416), [14, 65_416, 0, 0, 0]);
 
     let count = |count| {
         let (header, image) = (&mut [0; 32], &mut vec![0; 3 << 16]);
-        write(count, Geometry::new(65_536, 1, 8), 2, 0, (header, image))
+        write(count, (65_536, 1, 8, 2), 0, (header, image))
     };
     assert_eq!(count(65_535), [0, 1, 3, 2, 3 << 16]);
     assert_eq!(count(65_536), [13, 65_536, 0, 0, 0]);
@@ -145,31 +133,31 @@ fn starts_and_counts() {
 fn unchecked_leaf() {
     let mut file = Form::new(G40, 0).leaf(b"record 1record 2");
     file[22] ^= 1;
-    let tree = Tree {
-        tree_type: 5,
-        geometry: G40,
-        depth: 0,
-        root_address: 0,
-        root_records: 2,
-        total_records: 2,
+    let collect = |file: &[u8], output: &mut [u8]| {
+        let (root_address, root_records, total_records) = (0, 2, 2);
+        raw::collect(
+            file,
+            5,
+            40,
+            8,
+            0,
+            root_address,
+            root_records,
+            total_records,
+            8,
+            output,
+        )
     };
     let mut output = [0; 16];
     let cut = &file[..file.len() - 1];
-    assert_eq!(
-        Rattle.collect(cut, &tree, &mut output),
-        [0, 0, 0, 2, 1, 0, 0]
-    );
+    assert_eq!(collect(cut, &mut output), [0, 0, 0, 2, 1, 0, 0]);
     assert_eq!(&output, b"record 1record 2");
-    assert_eq!(Rattle.collect(&file, &tree, &mut output)[0], 6);
+    assert_eq!(collect(&file, &mut output)[0], 6);
 
-    let leaf = Leaf {
-        address: 0,
-        count: 2,
-        record_size: 8,
-    };
+    let look = |file: &[u8], output: &mut [u8]| raw::leaf_record(file, 0, 2, 8, 1, output);
     let mut output = [0; 8];
-    assert_eq!(Rattle.leaf_record(cut, &leaf, 1, &mut output), [0, 8, 0]);
+    assert_eq!(look(cut, &mut output), [0, 8, 0]);
     assert_eq!(&output, b"record 2");
-    assert_eq!(Rattle.leaf_record(&file, &leaf, 1, &mut output)[0], 6);
+    assert_eq!(look(&file, &mut output)[0], 6);
     say("figures: a leaf that ends 3 bytes after its records is not checked");
 }

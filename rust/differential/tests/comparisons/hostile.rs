@@ -3,11 +3,13 @@
 use std::thread;
 use std::time::{Duration, Instant};
 
+use differential::calls::collect::Collecting;
+use differential::calls::{typed, Case};
 use differential::compare::nodes::{Form, Pointer};
+use differential::inputs::Tree;
 use differential::model::{Geometry, LEVEL_LIMIT};
-use differential::rattle::Rattle;
 use differential::report::say;
-use differential::subject::{CollectAnswer, Subject, Tree};
+use nuldrafon::Refusal;
 
 /// The stack that a collecting gets.
 const STACK: usize = 256 << 10;
@@ -62,10 +64,16 @@ fn header(address: u64, records: usize, depth: u16) -> Tree {
 }
 
 /// Collects on a small stack, says what was read, and holds the nodes to 33 for each record and 33.
-fn collect(name: &str, file: &[u8], tree: &Tree, output_length: usize) -> CollectAnswer {
+fn collect(name: &str, file: &[u8], tree: &Tree, output_length: usize) -> [u64; 7] {
+    let case = Collecting {
+        file,
+        tree,
+        output_length,
+        room: 0,
+    };
     let begin = Instant::now();
     let answer = thread::scope(|scope| {
-        let run = || Rattle.collect(file, tree, &mut vec![0; output_length]);
+        let run = || case.rattle(&mut [vec![0; output_length]]);
         let thread = thread::Builder::new().stack_size(STACK);
         let thread = thread.spawn_scoped(scope, run).expect("a thread starts");
         thread.join().expect("the collecting ends")
@@ -89,7 +97,7 @@ fn collect(name: &str, file: &[u8], tree: &Tree, output_length: usize) -> Collec
 }
 
 /// Collects from a tower into an output that is full in the end.
-fn fill(name: &str, tower: &Tower, output_length: usize) -> CollectAnswer {
+fn fill(name: &str, tower: &Tower, output_length: usize) -> [u64; 7] {
     let tree = header(tower.address, tower.records, LEVEL_LIMIT);
     let answer = collect(name, &tower.file, &tree, output_length);
     let length = output_length as u64;
@@ -151,4 +159,34 @@ fn deepest_header() {
     let file = Form::new(WIDE, 0).leaf(&[7]);
     let answer = collect("depth 65,535", &file, &header(0, 1, u16::MAX), 100);
     assert_eq!(answer, [16, u16::MAX.into(), 0, 0, 0, 0, 0]);
+}
+
+/// What the crate makes room for ends with the file's length, whatever the file and its header say.
+#[test]
+fn into_vectors() {
+    let shared = tower(|level| usize::from(level > 0));
+    let wide = tower(|_| MOST);
+    for (name, tower) in [
+        ("both children one node", shared),
+        ("65,536 children", wide),
+    ] {
+        let begin = Instant::now();
+        for total_records in [1, 1_000, u64::MAX] {
+            let tree = Tree {
+                total_records,
+                ..header(tower.address, tower.records, LEVEL_LIMIT)
+            };
+            let collected = typed::header(&tree).collect_to_vec(&tower.file);
+            let error = collected.expect_err("the tree does not end");
+            let length = tower.file.len() as u64;
+            assert_eq!(error.refusal, Refusal::OutputTooShort(length), "{name}");
+            assert_eq!(error.counts.records, length, "{name}");
+        }
+        let taken = begin.elapsed();
+        assert!(taken < SOON, "{name} took {taken:?}");
+        say(&format!(
+            "hostile file, {name}, into a vector: refused by 15 at the file's length, {} ms",
+            taken.as_millis()
+        ));
+    }
 }

@@ -1,11 +1,11 @@
 //! Records of one leaf: the families of cases.
 
-use super::nodes::Form;
-use super::sample::{self, for_each, Sample};
-use super::{Comparison, Held};
+use crate::compare::nodes::Form;
+use crate::compare::sample::{self, for_each, Sample};
+use crate::compare::{Comparison, Held};
+use crate::inputs::Leaf;
 use crate::model::Geometry;
 use crate::random::Random;
-use crate::subject::Leaf;
 
 /// Trees at any geometry, made-up numbers for each small file, and looks at each large leaf.
 const TREES: usize = 3_000;
@@ -34,7 +34,7 @@ pub fn as_written(to: &mut Comparison, random: &mut Random) -> Held {
 /// A leaf of trees at any geometry: as it is, and damaged.
 pub fn of_any_geometry(to: &mut Comparison, random: &mut Random) -> Held {
     for _ in 0..TREES {
-        let Some(mut sample) = sample::any(to.subject, random) else {
+        let Some(mut sample) = sample::any(to.by, random) else {
             continue;
         };
         let leaf = one_of(&sample, random);

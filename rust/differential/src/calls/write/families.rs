@@ -1,10 +1,10 @@
 //! The writing call: the families of cases.
 
-use super::held_write::Draft;
-use super::{bytes, grid, Comparison, Held};
+use super::Draft;
+use crate::compare::{bytes, grid, Comparison, Held};
+use crate::inputs::Writing;
 use crate::model::{Geometry, MOST_RECORDS};
 use crate::random::Random;
-use crate::subject::Writing;
 
 /// The most records of a case of the grid, and the bytes that its records are taken from.
 const MOST: u64 = 3_000;
@@ -55,7 +55,7 @@ pub fn on_the_grid(to: &mut Comparison, random: &mut Random) -> Held {
             counts.retain(|&count| count <= MOST && count * u64::from(record_size) <= POOL as u64);
             for count in counts {
                 let draft = any_draft(&pool, count, geometry, random);
-                to.hold_write("grid", &draft)?;
+                to.hold("grid", &draft)?;
             }
         }
     }
@@ -94,14 +94,14 @@ pub fn of_every_type_and_field_size(to: &mut Comparison, random: &mut Random) ->
     for tree_type in 0..=u8::MAX {
         let mut draft = any_draft(&pool, 8, Geometry::new(40, 8, 8), random);
         draft.given.tree_type = tree_type;
-        to.hold_write("types", &draft)?;
+        to.hold("types", &draft)?;
     }
     for offset_size in 0..=u8::MAX {
         for length_size in (0..=9).chain([16, 128, 255]) {
             let mut draft = any_draft(&pool, 8, Geometry::new(60, 8, 8), random);
             draft.given.geometry.offset_size = offset_size;
             draft.given.length_size = length_size;
-            to.hold_write("field sizes", &draft)?;
+            to.hold("field sizes", &draft)?;
         }
     }
     Ok(())
@@ -126,14 +126,14 @@ pub fn at_the_boundaries(to: &mut Comparison, random: &mut Random) -> Held {
             for length_size in grid::FIELD_SIZES {
                 let mut draft = any_draft(&pool, count, geometry, random);
                 draft.given.length_size = length_size;
-                to.hold_write("boundaries", &Draft::exact(draft.given))?;
+                to.hold("boundaries", &Draft::exact(draft.given))?;
             }
         }
     }
     for count in [MOST_RECORDS, MOST_RECORDS + 1, u64::MAX] {
         let mut draft = any_draft(&pool, 5, Geometry::new(512, 11, 8), random);
         draft.given.record_count = count;
-        to.hold_write("boundaries", &draft)?;
+        to.hold("boundaries", &draft)?;
     }
     of_buffers_and_starts(to, &pool, random)
 }
@@ -150,12 +150,12 @@ fn of_buffers_and_starts(to: &mut Comparison, pool: &[u8], random: &mut Random) 
             for other in (0..length).chain([length + 1, length + 2, 2 * length + 8]) {
                 let mut wrong = draft;
                 wrong.given.records = &pool[..other];
-                to.hold_write("buffers", &wrong)?;
+                to.hold("buffers", &wrong)?;
             }
             let last = draft.last_start();
             for start in (last - 2..=last.saturating_add(2)).chain([u64::MAX - 1, u64::MAX]) {
                 draft.given.start = start;
-                to.hold_write("starts", &draft)?;
+                to.hold("starts", &draft)?;
             }
         }
     }
@@ -171,7 +171,7 @@ fn of_short_buffers(to: &mut Comparison, exact: Draft) -> Held {
                 image_length: exact.image_length - missing,
                 ..exact
             };
-            to.hold_write("buffers", &short)?;
+            to.hold("buffers", &short)?;
         }
     }
     for image_length in 0..=exact.image_length {
@@ -179,7 +179,7 @@ fn of_short_buffers(to: &mut Comparison, exact: Draft) -> Held {
             image_length,
             ..exact
         };
-        to.hold_write("buffers", &short)?;
+        to.hold("buffers", &short)?;
     }
     Ok(())
 }
@@ -198,7 +198,7 @@ pub fn with_several_faults(to: &mut Comparison, random: &mut Random) -> Held {
                 fault(&mut draft, random);
             }
         }
-        to.hold_write("several faults", &draft)?;
+        to.hold("several faults", &draft)?;
     }
     Ok(())
 }
@@ -227,7 +227,7 @@ pub fn of_many_records(to: &mut Comparison, random: &mut Random) -> Held {
         let mut draft = any_draft(&records, count, geometry, random);
         draft.given.length_size = 4;
         draft.header_length = 40;
-        to.hold_write("large", &draft)?;
+        to.hold("large", &draft)?;
     }
     Ok(())
 }

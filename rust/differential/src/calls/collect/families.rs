@@ -1,13 +1,14 @@
 //! Collecting: the families of cases.
 
-use super::graft::grafted;
-use super::sample::{self, for_each, Sample, Sizes};
-use super::{grid, same, Comparison, Held};
+use super::Collecting;
+use crate::compare::graft::grafted;
+use crate::compare::sample::{self, for_each, Sample, Sizes};
+use crate::compare::{grid, same, Comparison, Held};
+use crate::inputs::Tree;
 use crate::model::{Geometry, LEVEL_LIMIT};
 use crate::random::Random;
-use crate::subject::Tree;
 
-/// The output in which the trees of small files end, or are not given to the Rust.
+/// The room in which the trees of small files end, or are not given to the Rust.
 const ROOM: usize = 1 << 16;
 /// Trees at any geometry, made-up headers for each small file, and random graphs of nodes.
 const TREES: usize = 10_000;
@@ -18,14 +19,13 @@ const EVERY_DAMAGE: usize = 300;
 
 /// Whole files into outputs of every length around every number of records.
 pub fn as_written(to: &mut Comparison, random: &mut Random) -> Held {
-    let room = &mut [0; ROOM];
     for_each(to, random, |to, sample, _| {
-        to.hold_whole("as written", sample, room)?;
+        to.hold_whole("as written", sample)?;
         let size = usize::from(sample.tree.geometry.record_size);
         for records in 0..=sample.tree.total_records as usize {
             for extra in [0, 1, size - 1, size + 1] {
                 let length = records * size + extra;
-                to.hold_collect("outputs", &sample.file, &sample.tree, length, room)?;
+                to.hold("outputs", &of(sample, length))?;
             }
         }
         Ok(())
@@ -34,31 +34,29 @@ pub fn as_written(to: &mut Comparison, random: &mut Random) -> Held {
 
 /// Trees at any geometry: whole, into an output of any length, and damaged.
 pub fn of_any_geometry(to: &mut Comparison, random: &mut Random) -> Held {
-    let room = &mut [0; ROOM];
     for _ in 0..TREES {
-        let Some(mut sample) = sample::any(to.subject, random) else {
+        let Some(mut sample) = sample::any(to.by, random) else {
             continue;
         };
-        to.hold_whole("any geometry", &sample, room)?;
+        to.hold_whole("any geometry", &sample)?;
         let whole = sample.records.len();
         let output = random.up_to(whole as u64) as usize;
-        to.hold_collect("any geometry", &sample.file, &sample.tree, output, room)?;
+        to.hold("any geometry", &of(&sample, output))?;
         let [_, image] = sample.parts();
         let place = image.start + random.up_to(image.len() as u64 - 1) as usize;
         sample.file[place] ^= 1 << random.up_to(7);
-        let (file, tree) = (&sample.file, &sample.tree);
-        to.hold_collect("any geometry, damaged", file, tree, whole, room)?;
+        to.hold("any geometry, damaged", &of(&sample, whole))?;
     }
     Ok(())
 }
 
 /// Every end of the file.
 pub fn cut(to: &mut Comparison, random: &mut Random) -> Held {
-    let room = &mut [0; ROOM];
     for_each(to, random, |to, sample, _| {
-        let output = sample.records.len();
+        let whole = of(sample, sample.records.len());
         for length in 0..sample.file.len() {
-            to.hold_collect("cut", &sample.file[..length], &sample.tree, output, room)?;
+            let file = &sample.file[..length];
+            to.hold("cut", &Collecting { file, ..whole })?;
         }
         Ok(())
     })
@@ -67,7 +65,6 @@ pub fn cut(to: &mut Comparison, random: &mut Random) -> Held {
 /// Each byte of the nodes changed, in every way in the smallest files and in some in the others,
 /// into outputs that are mostly long enough.
 pub fn damaged(to: &mut Comparison, random: &mut Random) -> Held {
-    let room = &mut [0; ROOM];
     for_each(to, random, |to, sample, random| {
         let [_, image] = sample.parts();
         let turns: Vec<u8> = match image.len() {
@@ -81,7 +78,7 @@ pub fn damaged(to: &mut Comparison, random: &mut Random) -> Held {
                     _ => sample.records.len() + 100,
                 };
                 sample.file[place] ^= turn;
-                to.hold_collect("damaged", &sample.file, &sample.tree, output, room)?;
+                to.hold("damaged", &of(sample, output))?;
                 sample.file[place] ^= turn;
             }
         }
@@ -91,12 +88,12 @@ pub fn damaged(to: &mut Comparison, random: &mut Random) -> Held {
 
 /// Headers with some numbers made up, over the small files.
 pub fn with_made_up_headers(to: &mut Comparison, random: &mut Random) -> Held {
-    let room = &mut [0; ROOM];
     for_each(to, random, |to, sample, random| {
         for _ in 0..HEADERS {
-            let tree = made_up(sample, random);
+            let tree = &made_up(sample, random);
             let output = random.any_magnitude(2 * ROOM as u64) as usize;
-            to.hold_collect("made-up headers", &sample.file, &tree, output, room)?;
+            let case = of(sample, output);
+            to.hold("made-up headers", &Collecting { tree, ..case })?;
         }
         Ok(())
     })
@@ -124,14 +121,19 @@ fn made_up(sample: &Sample, random: &mut Random) -> Tree {
 
 /// Nodes that point at one another at random, deep ones and shared ones among them.
 pub fn of_random_graphs(to: &mut Comparison, random: &mut Random) -> Held {
-    let room = &mut [0; ROOM];
     for _ in 0..GRAPHS {
         let (file, tree) = grafted(random);
         let output = match random.up_to(3) {
             0 => random.any_magnitude(ROOM as u64) as usize,
             _ => 4_000,
         };
-        to.hold_collect("random graphs", &file, &tree, output, room)?;
+        let case = Collecting {
+            file: &file,
+            tree: &tree,
+            output_length: output,
+            room: ROOM,
+        };
+        to.hold("random graphs", &case)?;
     }
     Ok(())
 }
@@ -158,40 +160,53 @@ const fn large(node_size: u32, record_size: u16, offset_size: u8, record_count: 
 /// Large files: whole, into a short output, cut anywhere, and with a bit or a byte turned anywhere.
 pub fn of_many_records(to: &mut Comparison, random: &mut Random) -> Held {
     for (turn, (sizes, times)) in LARGE.into_iter().enumerate() {
-        let sample = Sample::new(to.subject, sizes, turn % 2 == 0, random);
+        let sample = Sample::new(to.by, sizes, turn % 2 == 0, random);
         let mut sample = sample.ok_or("a large tree was refused")?;
         let [_, image] = sample.parts();
         let whole = sample.records.len();
-        let mut room = vec![0; whole];
-        to.hold_whole("large", &sample, &mut room)?;
+        to.hold_whole("large", &sample)?;
         let short = random.up_to(whole as u64) as usize;
-        to.hold_collect("large", &sample.file, &sample.tree, short, &mut room)?;
+        to.hold("large", &of(&sample, short))?;
         for _ in 0..times {
             let place = image.start + random.up_to(image.len() as u64 - 1) as usize;
-            let (file, tree) = (&sample.file[..place], &sample.tree);
-            to.hold_collect("large, cut", file, tree, whole, &mut room)?;
+            let cut = Collecting {
+                file: &sample.file[..place],
+                ..of(&sample, whole)
+            };
+            to.hold("large, cut", &cut)?;
             let turn = [1 << random.up_to(7), 0xff][random.up_to(1) as usize];
             sample.file[place] ^= turn;
-            let (file, tree) = (&sample.file, &sample.tree);
-            to.hold_collect("large, damaged", file, tree, whole, &mut room)?;
+            to.hold("large, damaged", &of(&sample, whole))?;
             sample.file[place] ^= turn;
         }
     }
     Ok(())
 }
 
-impl Comparison<'_> {
+/// The collecting of a sample's tree into an output of a length.
+fn of(sample: &Sample, output_length: usize) -> Collecting<'_> {
+    Collecting {
+        file: &sample.file,
+        tree: &sample.tree,
+        output_length,
+        room: ROOM.max(sample.records.len()),
+    }
+}
+
+impl Comparison {
     /// Holds the collecting of a whole tree to what was written, too.
-    fn hold_whole(&mut self, class: &'static str, sample: &Sample, room: &mut [u8]) -> Held {
+    fn hold_whole(&mut self, class: &'static str, sample: &Sample) -> Held {
         let (tree, whole) = (&sample.tree, sample.records.len());
-        self.hold_collect(class, &sample.file, tree, whole, room)?;
+        let collecting = of(sample, whole);
+        self.hold(class, &collecting)?;
         let case = || format!("whole {tree:?}");
-        let answer = self.subject.collect(&sample.file, tree, room);
+        let mut lent = [vec![0; whole]];
+        let answer = self.by.answer(&collecting, &mut lent);
         let size = u64::from(tree.geometry.node_size);
         let nodes = (tree.root_address - sample.image_at as u64) / size + 1;
         let [number, _, _, records, leaves, internals, inner] = answer;
         same([number, records], [0, tree.total_records], "written:", case)?;
-        same(&room[..whole], &sample.records[..], "written:", case)?;
+        same(&lent[0], &sample.records, "written:", case)?;
         if records > 0 {
             same(
                 [leaves, leaves + internals],

@@ -1,0 +1,177 @@
+//! Collecting: its cases.
+
+mod families;
+mod faults;
+
+use std::fmt;
+
+use nuldrafon::raw;
+
+use super::case::{array, Case, Fault, Told};
+use super::typed;
+use crate::compare::bytes::{beginning, pattern, same_bytes};
+use crate::compare::{rust, same, Held};
+use crate::inputs::Tree;
+use crate::model;
+pub use families::{
+    as_written, cut, damaged, of_any_geometry, of_many_records, of_random_graphs,
+    with_made_up_headers,
+};
+
+/// Files up to this long are also collected into a buffer that the crate makes.
+const TO_VEC: usize = 1 << 16;
+
+/// A collecting into an output of a length. Where that is too short, the Rust, which has none, is
+/// asked only if the model finds an end in a larger `room`: a small file can hold a tree that it
+/// would read for hours.
+#[derive(Clone, Copy)]
+pub struct Collecting<'a> {
+    pub file: &'a [u8],
+    pub tree: &'a Tree,
+    pub output_length: usize,
+    pub room: usize,
+}
+
+impl fmt::Display for Collecting<'_> {
+    fn fmt(&self, to: &mut fmt::Formatter) -> fmt::Result {
+        let Collecting {
+            file,
+            tree,
+            output_length,
+            ..
+        } = self;
+        write!(to, "{tree:?} into {output_length}, {}", beginning(file))
+    }
+}
+
+impl Case for Collecting<'_> {
+    type Answer = [u64; 7];
+    type Lent = [Vec<u8>; 1];
+
+    fn lend(&self) -> Self::Lent {
+        [pattern(self.output_length)]
+    }
+
+    fn rattle(&self, [output]: &mut Self::Lent) -> Self::Answer {
+        let tree = self.tree;
+        raw::collect(
+            self.file,
+            tree.tree_type,
+            tree.geometry.node_size,
+            tree.geometry.record_size,
+            tree.depth,
+            tree.root_address,
+            tree.root_records,
+            tree.total_records,
+            tree.geometry.offset_size,
+            output,
+        )
+    }
+
+    fn typed(&self, [output]: &mut Self::Lent) -> Self::Answer {
+        typed_answer(typed::header(self.tree).collect(self.file, output))
+    }
+
+    fn model(&self, [output]: &mut Self::Lent) -> Self::Answer {
+        let collected = model::collect(self.file, self.tree, output);
+        let counts = collected.counts;
+        let [number, first, second] = array(collected.answer.map(|()| []));
+        [
+            number,
+            first,
+            second,
+            counts.records,
+            counts.leaves,
+            counts.internals,
+            counts.inner,
+        ]
+    }
+
+    fn written(&self, answer: &Self::Answer) -> Vec<usize> {
+        vec![self.put_out(answer)]
+    }
+
+    fn hold_to_rust(&self, ours: &Self::Answer, [output]: &Self::Lent) -> Option<Held> {
+        let whole = match ours[0] {
+            15 => self.model(&mut [vec![0; self.room]]),
+            _ => *ours,
+        };
+        if [8, 15, 16].contains(&whole[0]) {
+            return None;
+        }
+        let case = || self.to_string();
+        let theirs = rust::collect(self.file, self.tree);
+        let refused = theirs.as_ref().err().copied().unwrap_or_default();
+        let held = same(&whole[..3], &refused, "the Rust", case);
+        Some(held.and_then(|()| match theirs {
+            Ok(records) => self.hold_records(ours, output, &records),
+            Err(_) => Ok(()),
+        }))
+    }
+
+    /// The collecting into a buffer that the crate makes: what comes into a lent one as long as the
+    /// file.
+    fn hold_others(&self, _: &Self::Answer, _: &Self::Lent) -> Held {
+        if self.file.len() > TO_VEC {
+            return Ok(());
+        }
+        let case = || format!("{self}, to a vector");
+        let lent = &mut [vec![0; self.file.len()]];
+        let answer = self.rattle(lent);
+        let collected = typed::header(self.tree).collect_to_vec(self.file);
+        let counts = collected.as_ref().map(|collected| collected.counts);
+        let told = typed_answer(counts.map_err(|error| *error));
+        same(told, answer, "the lent", case)?;
+        match collected {
+            Ok(collected) => {
+                let put = &lent[0][..self.put_out(&answer)];
+                same_bytes(&collected.records, put, "the lent", case)
+            }
+            Err(_) => Ok(()),
+        }
+    }
+
+    fn faults() -> Vec<Fault<Self>> {
+        faults::faults()
+    }
+}
+
+/// The numbers of a collecting by the crate's types.
+fn typed_answer(answer: Result<nuldrafon::Counts, nuldrafon::CollectError>) -> [u64; 7] {
+    let (told, counts) = match answer {
+        Ok(counts) => ([0; 3], counts),
+        Err(error) => (error.refusal.told(), error.counts),
+    };
+    let [number, first, second] = told;
+    [
+        number,
+        first,
+        second,
+        counts.records,
+        counts.leaves,
+        counts.internal_nodes,
+        counts.internal_records,
+    ]
+}
+
+impl Collecting<'_> {
+    /// The bytes of the records that an answer says were put out.
+    fn put_out(&self, answer: &[u64; 7]) -> usize {
+        (answer[3] as usize).saturating_mul(self.tree.geometry.record_size.into())
+    }
+
+    /// Holds an answer and its output to the Rust's records: those that fit were put out, and 15
+    /// came where there are more.
+    fn hold_records(&self, ours: &[u64; 7], output: &[u8], records: &[u8]) -> Held {
+        let case = || self.to_string();
+        let size = usize::from(self.tree.geometry.record_size).max(1);
+        let fitting = (output.len() / size * size).min(records.len());
+        let put = &output[..self.put_out(ours)];
+        same_bytes(put, &records[..fitting], "the Rust's records", case)?;
+        let expected = match fitting == records.len() {
+            true => [0, 0],
+            false => [15, output.len() as u64],
+        };
+        same([ours[0], ours[1]], expected, "the Rust's records say", case)
+    }
+}
