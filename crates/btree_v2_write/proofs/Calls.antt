@@ -1,5 +1,5 @@
 -- The writing call: what its checks give to the functions that fill the outputs, and that these leave the defined bytes.
-use mathlib.Core.Path.{_≡_, refl, sym, _∙_, ap, subst, subst⁻¹}
+use mathlib.Core.Path.{_≡_, sym, _∙_, ap, subst, subst⁻¹}
 use mathlib.Core.List.{List, [], _∷_}
 use mathlib.Core.Logic.{⊎-elim}
 use Prim.Native.Nat.{ℕ, _+_, _-_, _*_, _^_, _≤_, _<_}
@@ -8,7 +8,7 @@ use native.Mathlib.Omega.{arith}
 use lib.Dec.{lit<}
 use lib.Pow.{pow-mono, pow-pos}
 use lib.ListN.{length, getD}
-use Rattle.fields.specs.Places.{stored, put}
+use Rattle.fields.specs.Places.{put}
 use Rattle.fields.proofs.Lists.{put-fits}
 use Rattle.fields.proofs.Numbers.{field-size-le}
 use Rattle.refusal.specs.declared.Refusal.{Refusal}
@@ -41,7 +41,7 @@ use Rattle.write_request.specs.declared.Request as own
 use Rattle.frame.specs.Layouts.{formAt}
 use Rattle.btree_v2_write.specs.Subtrees.{subtree, subtreeNodes, subtreeImage, Ready, SubtreeWritten}
 use Rattle.write_request.specs.Tests.{requestOf, Checked}
-use Rattle.btree_v2_write.specs.Call.{layoutOf, Accepted, Wrote}
+use Rattle.btree_v2_write.specs.Call.{layoutOf, Accepted, Outputs, Wrote}
 use Rattle.btree_v2_write.proofs.Internal.{address-fits}
 
 empty-fits : (g : Form) → 10 ≤ g .ns → Fit g 0 0
@@ -145,8 +145,8 @@ module _ (r : own.Request) {p : BTreeV2Plan} {info : NodeInfo} {recs hdr img : L
     unfolding nodesOf nodes
     root-some = omega (arith, nodes-is)
 
-    pub root-short : l .start + (root .nodes - 1) * l .«node_size» < 2 ^ 64
-    root-short = rw is (address-fits (q .start) 0 (nodesOf q) (q .ns) (omega (arith, known .0 .pass)) (rw zero-add ends) (root .nodes - 1) (omega (arith, nodes-is)))
+    pub node-short : (y : ℕ) → y ≤ root .nodes → l .start + y * l .«node_size» < 2 ^ 64
+    node-short y within = rw is (address-fits (q .start) 0 (nodesOf q) (q .ns) (omega (arith, known .0 .pass)) (rw zero-add ends) y (omega (arith, nodes-is)))
 
     root-address : l .start + (root .nodes - 1) * l .«node_size» ≡ rootOf q
     unfolding rootOf address formOf nodesOf nodes
@@ -168,32 +168,39 @@ module _ (r : own.Request) {p : BTreeV2Plan} {info : NodeInfo} {recs hdr img : L
 
     pub both-done : {z : List ℕ} {at : ℕ} → at ≡ l .start + (root .nodes - 1) * l .«node_size»
         → z ≡ put hdr 0 (headerBytes (formAt l) (q .lw) (p .depth) at (root .records) (root .total))
-        → (z ≡ headerExit q recs hdr img) × (img′ ≡ imageExit q recs hdr img)
-    both-done place e = (header-done place e, image-done)
+        → Outputs q recs hdr img z img′
+    both-done place e = record { headerLeft = header-done place e; imageLeft = image-done }
 
 -- `write`, by its two ways out.
-module _ (q : Request) (recs hdr img : List ℕ) (x : PlanAnswer) (info : NodeInfo)
-    (checked : Checked q (record { records = length recs; header = length hdr; image = length img }) (planAnswerOf x) info) where
-  answer-is : planAnswerOf x ≡ written q recs hdr img
-  unfolding written
-  answer-is = checked .answered
+answer-is : (q : Request) (recs hdr img : List ℕ) (x : PlanAnswer) (info : NodeInfo)
+    → Checked q (record { records = length recs; header = length hdr; image = length img }) (planAnswerOf x) info → planAnswerOf x ≡ written q recs hdr img
+unfolding written
+answer-is q recs hdr img x info checked = checked .answered
 
-  pub wrote-refused : (r : Refusal) → x ≡ plan-answer.Refused r → Wrote q recs hdr img (planAnswerOf x) hdr img
-  wrote-refused r e =
+module _ {q : Request} {recs hdr img : List ℕ} {x : PlanAnswer} {info : NodeInfo}
+    (checked : Checked q (record { records = length recs; header = length hdr; image = length img }) (planAnswerOf x) info) where
+  pub wrote-refused : {r : Refusal} → x ≡ plan-answer.Refused r → Wrote q recs hdr img (planAnswerOf x) hdr img
+  wrote-refused {r} e =
       let s = refused-is r in
-      let no-write : written q recs hdr img ≡ refused (s .0) (s .1) = sym answer-is ∙ ap planAnswerOf e ∙ s .2 in
+      let answered = answer-is q recs hdr img x info checked in
+      let no-write : written q recs hdr img ≡ refused (s .0) (s .1) = sym answered ∙ ap planAnswerOf e ∙ s .2 in
       record {
-        answered = answer-is;
+        answered = answered;
         headerLeft = sym (header-left q recs hdr img (s .0) (s .1) no-write);
         imageLeft = sym (image-left q recs hdr img (s .0) (s .1) no-write);
       }
 
-  pub accepted-planned : (p : BTreeV2Plan) → x ≡ plan-answer.Planned p → Accepted q p info recs hdr img
+  pub accepted-planned : {p : BTreeV2Plan} → x ≡ plan-answer.Planned p → Accepted q p info recs hdr img
   unfolding written
-  accepted-planned p e =
-      let figures = sym answer-is ∙ ap planAnswerOf e in
+  accepted-planned e =
+      let figures = sym (answer-is q recs hdr img x info checked) ∙ ap planAnswerOf e in
       record { figures = figures; table = rw figures at (checked .table) }
 
-  pub wrote-accepted : (p : BTreeV2Plan) (h i : List ℕ) → x ≡ plan-answer.Planned p
-      → (h ≡ headerExit q recs hdr img) × (i ≡ imageExit q recs hdr img) → Wrote q recs hdr img (planAnswerOf (plan-answer.Planned p)) h i
-  wrote-accepted p h i s e = record { answered = sym (ap planAnswerOf s) ∙ answer-is; headerLeft = e .0; imageLeft = e .1 }
+  pub wrote-accepted : {p : BTreeV2Plan} {h i : List ℕ} → x ≡ plan-answer.Planned p → Outputs q recs hdr img h i
+      → Wrote q recs hdr img (planAnswerOf (plan-answer.Planned p)) h i
+  wrote-accepted e outputs =
+      record {
+        answered = sym (ap planAnswerOf e) ∙ answer-is q recs hdr img x info checked;
+        headerLeft = outputs .headerLeft;
+        imageLeft = outputs .imageLeft;
+      }

@@ -16,7 +16,7 @@ use Rattle.fields.proofs.Lists.{stored-nil, length-stored}
 use Rattle.node_info.proofs.Capacities.{total-le}
 use Rattle.plan.specs.Tree.{Tree, sumKids, between, nodes, below, count, size}
 use Rattle.plan.specs.Planned.{taken, children, kidsOf, planTree, thin}
-use Rattle.plan.proofs.Dealing.{share, extra, taken-le, taken-pos, extra-lt, children-some, all-children}
+use Rattle.plan.proofs.Dealing.{share, extra, taken-le, taken-pos, extra-lt, children-some}
 use Rattle.plan.proofs.Lists.{sumOf, AllOf, sumKids-of}
 use Rattle.plan.proofs.Plans.{plan-size, plan-count}
 use Rattle.plan.proofs.Trees.{AllKids, Everywhere}
@@ -112,12 +112,9 @@ module _ {l : Layout} {most wide : List ℕ} {R I d n j r : ℕ} (ready : Ready 
       rw (← images-kids l recs d kids many (sized l recs d n thick) j r, long, sumKids-of (subtree l d) (nodes d) kids many)
 
 -- A leaf.
-module _ (l : Layout) (most wide recs o : List ℕ) (depth n j r : ℕ) (ready : Ready l most wide (length recs) (length o) depth n j r) (none : depth < 1) where
-  is-leaf : depth ≡ 0
-  is-leaf = omega arith
-
+module _ (l : Layout) (most wide recs o : List ℕ) (depth n j r : ℕ) (ready : Ready l most wide (length recs) (length o) depth n j r) (none : depth ≡ 0) where
   leaf : Ready l most wide (length recs) (length o) 0 n j r
-  leaf = subst (λ z. Ready l most wide (length recs) (length o) z n j r) is-leaf ready
+  leaf = subst (λ z. Ready l most wide (length recs) (length o) z n j r) none ready
 
   pub leaf-room : (j + 1) * l .«node_size» ≤ length o
   unfolding nodes below
@@ -127,16 +124,17 @@ module _ (l : Layout) (most wide recs o : List ℕ) (depth n j r : ℕ) (ready :
   unfolding count planTree
   leaf-fits = leaf .fits .node
 
-  pub leaf-done : (o′ : List ℕ) → o′ ≡ stored o (j * l .«node_size») (padded (l .«node_size») (leafBytes (formAt l) (l .start) recs n r))
-      → SubtreeWritten l recs o o′ depth n j r (record { records = n; total = n; nodes = 1 })
-  unfolding subtreeImage nodes below count size image planTree
-  leaf-done o′ e =
-      rw is-leaf (record { image = e; child = record { records = refl; total = refl; nodes = refl } })
+pub leaf-done : {l : Layout} {recs o o′ : List ℕ} {depth n j r : ℕ} → depth ≡ 0
+    → o′ ≡ stored o (j * l .«node_size») (padded (l .«node_size») (leafBytes (formAt l) (l .start) recs n r))
+    → SubtreeWritten l recs o o′ depth n j r (record { records = n; total = n; nodes = 1 })
+unfolding subtreeImage nodes below count size image planTree
+leaf-done none e =
+    rw none (record { image = e; child = record { records = refl; total = refl; nodes = refl } })
 
 -- A node of depth at least 1 that keeps k records; its children have b records, the first x of them one more.
 pub record Dealt (l : Layout) (most wide : List ℕ) (R I depth n j r k b x : ℕ) : Type 0 where
   pub given : Ready l most wide R I depth n j r
-  pub pos : 1 ≤ depth
+  pub pos : depth ≡ 0 → ⊥
   pub kept : k ≡ taken (getD most (depth - 1) 0) n
   pub base : b ≡ share (getD most (depth - 1) 0) n
   pub extra : x ≡ extra (getD most (depth - 1) 0) n
@@ -233,7 +231,7 @@ innerAt k b x large small t j r =
 
 -- Before the loop: what is dealt, and the first child.
 module _ (l : Layout) (most wide recs : List ℕ) (depth n j r k b x : ℕ) (o : List ℕ)
-    (given : Ready l most wide (length recs) (length o) depth n j r) (pos : 1 ≤ depth) (kept : k ≡ taken (getD most (depth - 1) 0) n)
+    (given : Ready l most wide (length recs) (length o) depth n j r) (pos : depth ≡ 0 → ⊥) (kept : k ≡ taken (getD most (depth - 1) 0) n)
     (base : b ≡ share (getD most (depth - 1) 0) n) (more : x ≡ extra (getD most (depth - 1) 0) n) where
   now-dealt : Dealt l most wide (length recs) (length o) depth n j r k b x
   now-dealt = record { given = given; pos = pos; kept = kept; base = base; extra = more }
@@ -241,27 +239,28 @@ module _ (l : Layout) (most wide recs : List ℕ) (depth n j r k b x : ℕ) (o :
   pub share-few : b < 2 ^ 32
   share-few = base-few now-dealt
 
-  module _ (m : ℕ) (e : m ≡ pick (ltb 0 x) (b + 1) b) where
-    pub first-asked : Ready l most wide (length recs) (length o) (depth - 1) m j r
-    first-asked = first-ready now-dealt e
+  pub first-asked : (m : ℕ) → m ≡ pick (ltb 0 x) (b + 1) b → Ready l most wide (length recs) (length o) (depth - 1) m j r
+  first-asked m e = first-ready now-dealt e
 
-    pub loop-start : (o₁ : List ℕ) (large : Child) → length o₁ ≡ length o → SubtreeWritten l recs o o₁ (depth - 1) m j r large
-        → KidsLeft l most wide recs o₁ depth n j r k b x large o₁ large (large .total) (large .nodes) 1
-    unfolding sumOf withOne
-    loop-start o₁ large same wrote =
-        let many = wrote .child .total ∙ planned-records (capacities l) (depth - 1) m (first-asked .thick) in
-        let rows = rw (first-left now-dealt e) at (rows-all now-dealt) in
-        let child = subst (λ z. ChildOf (depth - 1) (subtree l (depth - 1) z) large) e (wrote .child) in
-        record {
-          dealt = rw same now-dealt;
-          of-first = child;
-          of-last = child;
-          within = (omega arith, omega arith);
-          reached = rw (first-left now-dealt e) (omega (arith, wrote .child .nodes));
-          rows = omega (arith, rows, many);
-          long = refl;
-          left = refl;
-        }
+-- The loop begins when the first child is written.
+pub loop-start : {l : Layout} {most wide recs : List ℕ} {depth n j r k b x m : ℕ} {o o₁ : List ℕ} {large : Child}
+    → Dealt l most wide (length recs) (length o) depth n j r k b x → m ≡ pick (ltb 0 x) (b + 1) b → length o₁ ≡ length o
+    → SubtreeWritten l recs o o₁ (depth - 1) m j r large → KidsLeft l most wide recs o₁ depth n j r k b x large o₁ large (large .total) (large .nodes) 1
+unfolding sumOf withOne
+loop-start {l} {depth = depth} {m = m} {large = large} dealt e same wrote =
+    let many = wrote .child .total ∙ planned-records (capacities l) (depth - 1) m (first-ready dealt e .thick) in
+    let rows = rw (first-left dealt e) at (rows-all dealt) in
+    let child = subst (λ z. ChildOf (depth - 1) (subtree l (depth - 1) z) large) e (wrote .child) in
+    record {
+      dealt = rw same dealt;
+      of-first = child;
+      of-last = child;
+      within = (omega arith, omega arith);
+      reached = rw (first-left dealt e) (omega (arith, wrote .child .nodes));
+      rows = omega (arith, rows, many);
+      long = refl;
+      left = refl;
+    }
 
 module _ {l : Layout} {most wide recs : List ℕ} {depth n j r k b x : ℕ} {o₁ o : List ℕ} {large small : Child} {total many i : ℕ}
     (inv : KidsLeft l most wide recs o₁ depth n j r k b x large o small total many i) where
@@ -272,7 +271,7 @@ module _ {l : Layout} {most wide recs : List ℕ} {depth n j r k b x : ℕ} {o�
   rest = from (k + 1) x (b + 1) b
 
   -- A number among those of the subtree's nodes, or the one after them.
-  node-fits : (y : ℕ) → y ≤ j + subtreeNodes l (suc d) n → Fits w64 y
+  pub node-fits : (y : ℕ) → y ≤ j + subtreeNodes l (suc d) n → Fits w64 y
   node-fits y within =
       let node = ready (inv .dealt) in
       number-fits (l .start) j (subtreeNodes l (suc d) n) (l .«node_size») (node-pos node) (node .short) y within
@@ -345,7 +344,7 @@ module _ {l : Layout} {most wide recs : List ℕ} {depth n j r k b x : ℕ} {o�
     unfolding withOne
     rows-done = let q = rw none-left at (inv .rows) in omega (arith, q, last-is)
 
-    next-is : j + many + 1 ≡ j + subtreeNodes l (suc d) n
+    pub next-is : j + many + 1 ≡ j + subtreeNodes l (suc d) n
     next-is = omega (arith, nodes-all (inv .dealt), nodes-done)
 
     pub all-fit : Fits w64 (many + 1)

@@ -1,8 +1,7 @@
 // The writing call: a header and the nodes of a version 2 B-tree, put into two lent buffers.
 
 ghost use mathlib.Core.Path.{_≡_};
-ghost use Rattle.format.specs.Writing.{headerExit, imageExit};
-ghost use Rattle.btree_v2_write.specs.Call.{asked, layoutOf, Accepted, Wrote};
+ghost use Rattle.btree_v2_write.specs.Call.{asked, layoutOf, Accepted, Outputs, Wrote};
 ghost use Rattle.write_request.specs.Tests.{requestOf};
 ghost use Rattle.plan.specs.Planned.{planAnswerOf};
 use frame::Layout;
@@ -39,7 +38,7 @@ fn write_planned(
     image: &mut [u8],
 )
     requires { ⌜ Accepted (requestOf request) plan info (now records) (now header) (now image) ⌝ }
-    ensures { λ _. ⌜ (now (header .exit) ≡ headerExit (requestOf request) (now (records .entry)) (now (header .entry)) (now (image .entry))) × (now (image .exit) ≡ imageExit (requestOf request) (now (records .entry)) (now (header .entry)) (now (image .entry))) ⌝ }
+    ensures { λ _. ⌜ Outputs (requestOf request) (now (records .entry)) (now (header .entry)) (now (image .entry)) (now (header .exit)) (now (image .exit)) ⌝ }
 {
     let layout = layout_of(request, info.max_nrec_size);
     let most = info.cum_max_nrec;
@@ -72,7 +71,8 @@ pub fn write(
     header: &mut [u8],
     image: &mut [u8],
 ) -> PlanAnswer
-    ensures { λ r. ⌜ Wrote (asked «tree_type» «record_count» «record_size» «node_size» «offset_size» «length_size» start) (now (records .entry)) (now (header .entry)) (now (image .entry)) (planAnswerOf r) (now (header .exit)) (now (image .exit)) ⌝ }
+    ensures { λ r. ⌜ Wrote (asked «tree_type» «record_count» «record_size» «node_size» «offset_size» «length_size» start)
+        (now (records .entry)) (now (header .entry)) (now (image .entry)) (planAnswerOf r) (now (header .exit)) (now (image .exit)) ⌝ }
 {
     let request = Request {
         tree_type,

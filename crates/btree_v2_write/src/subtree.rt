@@ -24,7 +24,7 @@ fn write_subtree(
     requires { ⌜ Ready layout (now most) (now wide) (length (now records)) (length (now image)) depth n j r ⌝ }
     ensures { λ x. ⌜ SubtreeWritten layout (now (records .entry)) (now (image .entry)) (now (image .exit)) depth n j r x ⌝ }
 {
-    if depth < 1 {
+    if depth == 0 {
         node::write_leaf(image, layout, records, n, r, j);
         return Child {
             records: n as u64,

@@ -11,8 +11,11 @@ write-spec =
     (λ c κs. search needs)
     (λ c. search needs)
     (λ c. search needs)
-    (λ c. search wrote-refused)
-    (λ c κs. search accepted-planned)
+    (λ c. wrote-refused (c .before .before .check .ensures) (c .enum-told .given .1))
+    (λ c κs. accepted-planned (c .before .before .before .before .before .check .ensures) (c .before .before .before .answer .given .1))
     (λ c. search needs)
     (λ c. search needs)
-    (λ c. search wrote-accepted))
+    (λ c.
+    let put = c .before .before .before .before in
+    let known = put .before .before .before .before in
+    wrote-accepted (known .before .before .check .ensures) (known .answer .given .1) (put .write-planned .ensures)))

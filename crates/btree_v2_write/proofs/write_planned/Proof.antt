@@ -1,6 +1,7 @@
 -- The image, and then the header.
-use Rattle.btree_v2_write.proofs.Calls.{image-ready, root-some, root-short, both-done}
+use Rattle.btree_v2_write.proofs.Calls.{image-ready, root-some, node-short, both-done}
 use borrow.Author.Needs.{needs}
+use native.Mathlib.Omega.{arith}
 use Rattle.btree_v2_write.proofs.write_planned.Statement.{statement}
 use Rattle.btree_v2_write.proofs.write_planned.Tie as tie
 
@@ -13,8 +14,12 @@ write-planned-spec =
     (λ c κs. search image-ready)
     (λ c. search needs)
     (λ c. search needs)
-    (λ c. search root-some)
-    (λ c κs. search root-short)
+    (λ c. search (root-some, needs))
+    (λ c κs.
+    let drawn = c .before .before .before .before .before .before in
+    let laid = drawn .before .before .before .before .before .before .before in
+    let start = laid .before .before .before .before in
+    node-short (start .args .request) (start .pre) (laid .layout-of .ensures) (drawn .write-image .ensures) _ (omega arith))
     (λ c κs. search needs)
     (λ c. search needs)
     (λ c. search needs)

@@ -15,7 +15,8 @@ use Rattle.btree_v2_write.proofs.subtree.+write_subtree.Tie.{close}
 use Prim.Native.Nat.{_+_, _-_}
 use native.Mathlib.Omega.{arith}
 use borrow.Author.Needs.{needs}
-use Rattle.btree_v2_write.proofs.Subtrees.{KidsLeft, leaf-room, leaf-fits, leaf-done, base-few, kept-small, width-small, share-few, first-asked, loop-start, place-fits, kid-ready, total-fits, nodes-fit, loop-turn, all-fit, root-fits, root-room, root-done}
+use Rattle.btree_v2_write.proofs.Subtrees.{leaf-room, leaf-fits, leaf-done, base-few, width-small, share-few, first-asked, loop-start}
+use Rattle.btree_v2_write.proofs.Subtrees.{KidsLeft, place-fits, kid-ready, total-fits, nodes-fit, loop-turn, node-fits, next-is, root-fits, root-room, root-done}
 
 abbrev μ-write-subtree : Measures 4 write-subtree-kinds.ps ℕ
 μ-write-subtree κs a = a .1 .1 .1 .1 .1 .0
@@ -49,13 +50,21 @@ pub +write-subtree-spec : {M : Type 1} → statement M
     μ-loop
     (λ c κs. search (leaf-room, leaf-fits, needs))
     (λ c. search needs)
-    (λ c. search leaf-done)
+    (λ c. leaf-done (c .before .before .before .before .if1 .taken) (c .before .before .write-leaf .ensures))
+    (λ c. search needs)
     (λ c. search needs)
     (λ c. search needs)
     (λ c κs. search needs)
     (λ c κs. search share-few)
     (λ c κs. (omega arith, search first-asked))
-    (λ c. search loop-start)
+    (λ c.
+    let begun = c .before .before in
+    let known = begun .before .before .before in
+    let kept = known .deal .ensures in
+    let start = known .before .before .before .before .before in
+    loop-start
+    (record { given = start .pre .1; pos = known .before .before .if1 .left; kept = kept .0; base = kept .1; extra = kept .2 })
+    (begun .before .before .share .ensures) (begun .write-subtree .kept .0) (begun .write-subtree .ensures))
     (λ c κs. search base-few)
     (λ c. search needs)
     (λ c. search needs)
@@ -79,9 +88,13 @@ pub +write-subtree-spec : {M : Type 1} → statement M
     let ended = c .before .before in
     (root-fits (ended .before .loop .inv) (ended .loop-test .left), root-room (ended .before .loop .inv) (ended .loop-test .left)))
     (λ c. search needs)
-    (λ c. let ended = c .before .before .before .before .before .before in all-fit (ended .before .loop .inv) (ended .loop-test .left))
+    (λ c.
+    let ended = c .before .before .before .before .before .before in
+    node-fits (ended .before .loop .inv) _ (omega (arith, next-is (ended .before .loop .inv) (ended .loop-test .left))))
     (λ c. search needs)
     (λ c.
     let ended = c .before .before .before .before .before .before in
     let begun = ended .before .before .before .before in
-    root-done (ended .before .loop .inv) (ended .loop-test .left) (begun .before .before .share .ensures) (begun .write-subtree .kept .0) (begun .write-subtree .ensures) (c .before .before .before .write-internal .ensures)))
+    root-done
+    (ended .before .loop .inv) (ended .loop-test .left) (begun .before .before .share .ensures)
+    (begun .write-subtree .kept .0) (begun .write-subtree .ensures) (c .before .before .before .write-internal .ensures)))
