@@ -95,13 +95,13 @@ module _ (o recs : List ℕ) (rs kept base extra r : ℕ) where
       reached-next = let e = rw row-left at (inv .reached) in omega (arith, e)
 
       -- The row is in the list, and its place in the node.
-      row-there : (row + m) * rs + rs ≤ length recs
+      pub row-there : (row + m) * rs + rs ≤ length recs
       row-there =
           let e = reached-next in
           let s : suc (row + m) ≤ r + withOne (twoSizes kept extra (base + 1) base) = omega arith in
           le-trans (rw suc-mul at (mul-le-mul-right rs s)) room
 
-      row-place : at + rs ≤ length d
+      pub row-place : at + rs ≤ length d
       row-place =
           let s : suc i ≤ kept = h in
           let t = rw suc-mul at (mul-le-mul-right rs s) in
@@ -121,9 +121,6 @@ module _ (o recs : List ℕ) (rs kept base extra r : ℕ) where
 
         pub row-offset-fits : Fits w64 ((row + m) * rs)
         row-offset-fits = omega (arith, row-there)
-
-      pub row-asked : (at + rs ≤ length d) × ((row + m) * rs + rs ≤ length recs)
-      row-asked = (row-place, row-there)
 
       pub place-fits : length o < 2 ^ 64 → Fits w64 (at + rs)
       place-fits short = omega (arith, row-place, inv .long)
@@ -204,25 +201,20 @@ module _ (o : List ℕ) (l : Layout) (at₀ kept extra t j : ℕ) (large small :
     next-reached = let e = rw pointer-left at (inv .reached) in omega (arith, e)
 
     -- What `put_pointer` asks.
-    pointer-room : at₀ + (kept + 1) * pointerSize l t ≤ length o → at + pointerSize l t ≤ length d
+    pub pointer-room : at₀ + (kept + 1) * pointerSize l t ≤ length o → at + pointerSize l t ≤ length d
     pointer-room room =
         let s : suc i ≤ kept + 1 = omega arith in
         let m = rw suc-mul at (mul-le-mul-right (pointerSize l t) s) in omega (arith, m, inv .place, inv .long)
 
-    pointer-some : 0 < large .nodes → 0 < small .nodes → 0 < x .nodes
+    pub pointer-some : 0 < large .nodes → 0 < small .nodes → 0 < x .nodes
     pointer-some a b = rw one (pick-some (ltb i extra) large small a b)
 
-    pointer-short : l .start + (j + nodesOfAll (twoSizes (kept + 1) extra large small)) * l .«node_size» < 2 ^ 64
+    pub pointer-short : l .start + (j + nodesOfAll (twoSizes (kept + 1) extra large small)) * l .«node_size» < 2 ^ 64
         → l .start + (next + x .nodes) * l .«node_size» < 2 ^ 64
     pointer-short short =
         let e = next-reached in
         let s : next + x .nodes ≤ j + nodesOfAll (twoSizes (kept + 1) extra large small) = omega arith in
         let m = mul-le-mul-right (l .«node_size») s in omega (arith, m)
-
-    pub pointer-asked : at₀ + (kept + 1) * pointerSize l t ≤ length o → 0 < large .nodes → 0 < small .nodes → 0 < l .«node_size»
-        → l .start + (j + nodesOfAll (twoSizes (kept + 1) extra large small)) * l .«node_size» < 2 ^ 64
-        → (at + pointerSize l t ≤ length d) × (0 < x .nodes) × (0 < l .«node_size») × (l .start + (next + x .nodes) * l .«node_size» < 2 ^ 64)
-    pointer-asked room a b pos short = (pointer-room room, pointer-some a b, pos, pointer-short short)
 
     pub next-fits : 0 < l .«node_size» → l .start + (j + nodesOfAll (twoSizes (kept + 1) extra large small)) * l .«node_size» < 2 ^ 64
         → Fits w64 (next + x .nodes)

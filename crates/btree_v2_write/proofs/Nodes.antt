@@ -20,10 +20,12 @@ use Rattle.frame.specs.Seals.{sealed}
 use Rattle.frame.proofs.Frames.{after-front, node-sealed}
 
 -- `put_number`: a field that fits.
-pub number-put : (o d : List ℕ) (at x w r : ℕ) → at + w ≤ length o → d ≡ put o at (le w x) → r ≡ pick (leb (at + w) (length o)) (at + w) at
-    → (d ≡ stored o at (le w x)) × (r ≡ at + w)
-number-put o d at x w r h hd hr =
-    (rw (hd, put-fits o at (le w x) (rw le-length h)), rw (hr, le-leb (at + w) (length o) h))
+module _ (o : List ℕ) (at w : ℕ) (h : at + w ≤ length o) where
+  pub number-put : (d : List ℕ) (x : ℕ) → d ≡ put o at (le w x) → d ≡ stored o at (le w x)
+  number-put d x e = rw (e, put-fits o at (le w x) (rw le-length h))
+
+  pub number-end : (r : ℕ) → r ≡ pick (leb (at + w) (length o)) (at + w) at → r ≡ at + w
+  number-end r e = rw (e, le-leb (at + w) (length o) h)
 
 -- `fill_leaf`: front, records, checksum, zeros.
 pub leaf-filled : (l : Layout) (o d e z records : List ℕ) (n r : ℕ) → l .«node_size» ≤ length o → 10 + n * l .«record_size» ≤ l .«node_size»

@@ -19,6 +19,11 @@ pub record Wrote (q : Request) (recs header image : List ℕ) (answer : Answer) 
   pub headerLeft : headerLast ≡ headerExit q recs header image
   pub imageLeft : imageLast ≡ imageExit q recs header image
 
+-- The same of the outputs alone.
+pub record Outputs (q : Request) (recs header image headerLast imageLast : List ℕ) : Type 0 where
+  pub headerLeft : headerLast ≡ headerExit q recs header image
+  pub imageLeft : imageLast ≡ imageExit q recs header image
+
 -- The layout of a request's nodes.
 abbrev pub layoutOf : own.Request → ℕ → Layout
 layoutOf q w =

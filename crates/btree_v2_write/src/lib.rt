@@ -1,8 +1,7 @@
 // The writing call: a header and the nodes of a version 2 B-tree, put into two lent buffers.
 
 ghost use mathlib.Core.Path.{_≡_};
-ghost use Rattle.format.specs.Writing.{headerExit, imageExit};
-ghost use Rattle.btree_v2_write.specs.Call.{asked, layoutOf, Accepted, Wrote};
+ghost use Rattle.btree_v2_write.specs.Call.{asked, layoutOf, Accepted, Outputs, Wrote};
 ghost use Rattle.write_request.specs.Tests.{requestOf};
 ghost use Rattle.plan.specs.Planned.{planAnswerOf};
 use frame::Layout;
@@ -29,7 +28,7 @@ fn layout_of(request: Request, count_size: u8) -> Layout
     }
 }
 
-// Writes an accepted tree: its nodes, and then its header.
+// Writes an accepted tree: its nodes, and then its header, of what the root came to.
 fn write_planned(
     request: Request,
     plan: BTreeV2Plan,
@@ -39,22 +38,20 @@ fn write_planned(
     image: &mut [u8],
 )
     requires { ⌜ Accepted (requestOf request) plan info (now records) (now header) (now image) ⌝ }
-    ensures { λ _. ⌜ (now (header .exit) ≡ headerExit (requestOf request) (now (records .entry)) (now (header .entry)) (now (image .entry))) × (now (image .exit) ≡ imageExit (requestOf request) (now (records .entry)) (now (header .entry)) (now (image .entry))) ⌝ }
+    ensures { λ _. ⌜ Outputs (requestOf request) (now (records .entry)) (now (header .entry)) (now (image .entry)) (now (header .exit)) (now (image .exit)) ⌝ }
 {
     let layout = layout_of(request, info.max_nrec_size);
     let most = info.cum_max_nrec;
     let wide = info.cum_max_nrec_size;
     let depth = plan.depth as usize;
     let n = request.record_count as usize;
-    let nodes = plan.nodes as usize;
-    subtree::write_image(image, layout, records, &most, &wide, depth, n);
-    let root = subtree::child_of(&most, depth, n, nodes);
+    let root = subtree::write_image(image, layout, records, &most, &wide, depth, n);
     frame::write_header(
         header,
         layout,
         request.length_size as usize,
         plan.depth as u64,
-        node::node_address(layout, nodes - 1),
+        node::node_address(layout, root.nodes - 1),
         root.records,
         root.total,
     );
@@ -74,7 +71,8 @@ pub fn write(
     header: &mut [u8],
     image: &mut [u8],
 ) -> PlanAnswer
-    ensures { λ r. ⌜ Wrote (asked «tree_type» «record_count» «record_size» «node_size» «offset_size» «length_size» start) (now (records .entry)) (now (header .entry)) (now (image .entry)) (planAnswerOf r) (now (header .exit)) (now (image .exit)) ⌝ }
+    ensures { λ r. ⌜ Wrote (asked «tree_type» «record_count» «record_size» «node_size» «offset_size» «length_size» start)
+        (now (records .entry)) (now (header .entry)) (now (image .entry)) (planAnswerOf r) (now (header .exit)) (now (image .exit)) ⌝ }
 {
     let request = Request {
         tree_type,

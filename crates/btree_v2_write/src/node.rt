@@ -55,7 +55,7 @@ pub(crate) fn write_leaf(
     fill_leaf(&mut image[at..], layout, records, n, r);
 }
 
-// A child's root and subtree in numbers: the root's records, all records, and the nodes.
+// A child in numbers, as its writing returns it: its root's records, all its records, and its nodes.
 pub(crate) struct Child {
     pub(crate) records: u64,
     pub(crate) total: u64,
@@ -136,7 +136,8 @@ fn put_pointers(
     total_size: usize,
     j: usize,
 ) -> usize
-    requires { ⌜ (at + (kept + 1) * pointerSize layout «total_size» ≤ length (now node)) × (0 < large .nodes) × (0 < small .nodes) × (0 < layout .«node_size») × (layout .start + (j + nodesOfAll (twoSizes (kept + 1) extra large small)) * layout .«node_size» < 2 ^ 64) × (kept < 2 ^ 32) ⌝ }
+    requires { ⌜ (at + (kept + 1) * pointerSize layout «total_size» ≤ length (now node)) × (0 < large .nodes) × (0 < small .nodes) × (0 < layout .«node_size»)
+        × (layout .start + (j + nodesOfAll (twoSizes (kept + 1) extra large small)) * layout .«node_size» < 2 ^ 64) × (kept < 2 ^ 32) ⌝ }
     ensures { λ p. ⌜ (now (node .exit) ≡ stored (now (node .entry)) at (pointersTo layout «total_size» (twoSizes (kept + 1) extra large small) j)) × (p ≡ at + (kept + 1) * pointerSize layout «total_size») ⌝ }
 {
     let mut at = at;

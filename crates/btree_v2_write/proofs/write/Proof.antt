@@ -11,8 +11,11 @@ write-spec =
     (λ c κs. search needs)
     (λ c. search needs)
     (λ c. search needs)
-    (λ c. wrote-refused _ (c .before .before .before .before .before .before .args .records .now) (c .before .before .before .before .before .before .args .header .now) (c .before .before .before .before .before .before .args .image .now) (c .before .before .check .result .answer) (c .before .before .check .result .info) (c .before .before .check .ensures) _ (c .enum-told .given .1))
-    (λ c κs. accepted-planned _ (c .before .before .before .before .before .before .before .before .before .args .records .now) (c .before .before .before .before .before .before .before .before .before .args .header .now) (c .before .before .before .before .before .before .before .before .before .args .image .now) (c .before .before .before .before .before .check .result .answer) (c .before .before .before .before .before .check .result .info) (c .before .before .before .before .before .check .ensures) _ (c .before .before .before .answer .given .1))
+    (λ c. wrote-refused (c .before .before .check .ensures) (c .enum-told .given .1))
+    (λ c κs. accepted-planned (c .before .before .before .before .before .check .ensures) (c .before .before .before .answer .given .1))
     (λ c. search needs)
     (λ c. search needs)
-    (λ c. wrote-accepted _ (c .before .before .before .before .before .before .before .before .before .before .before .before .before .before .args .records .now) (c .before .before .before .before .before .before .before .before .before .before .before .before .before .before .args .header .now) (c .before .before .before .before .before .before .before .before .before .before .before .before .before .before .args .image .now) (c .before .before .before .before .before .before .before .before .before .before .check .result .answer) (c .before .before .before .before .before .before .before .before .before .before .check .result .info) (c .before .before .before .before .before .before .before .before .before .before .check .ensures) _ _ _ (c .before .before .before .before .before .before .before .before .answer .given .1) (c .before .before .before .before .write-planned .ensures)))
+    (λ c.
+    let put = c .before .before .before .before in
+    let known = put .before .before .before .before in
+    wrote-accepted (known .before .before .check .ensures) (known .answer .given .1) (put .write-planned .ensures)))

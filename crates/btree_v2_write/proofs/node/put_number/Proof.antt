@@ -1,5 +1,5 @@
 -- A field that fits.
-use Rattle.btree_v2_write.proofs.Nodes.{number-put}
+use Rattle.btree_v2_write.proofs.Nodes.{number-put, number-end}
 use borrow.Author.Needs.{needs}
 use Rattle.btree_v2_write.proofs.node.put_number.Statement.{statement}
 use Rattle.btree_v2_write.proofs.node.put_number.Tie as tie
@@ -10,4 +10,8 @@ put-number-spec =
     (tie.spec
     (λ c κs. search needs)
     (λ c. search needs)
-    (λ c. number-put _ _ (c .before .before .before .before .before .args .at) (c .before .before .before .before .before .args .x) (c .before .before .before .before .before .args .width) _ (c .before .before .before .before .before .pre) (c .before .before .write-le .ensures .0) (c .before .before .write-le .ensures .1)))
+    (λ c.
+    let put = c .before .before .write-le .ensures in
+    let start = c .before .before .before .before .before in
+    let a = start .args in
+    (number-put _ (a .at) (a .width) (start .pre) _ (a .x) (put .0), number-end (a .node .now) (a .at) (a .width) (start .pre) _ (put .1))))

@@ -1,5 +1,5 @@
 -- The loop of `put_own_rows`: what is left, stored at the place reached, gives the whole.
-use Rattle.btree_v2_write.proofs.Internal.{RowsLeft, rows-start, row-fits, row-next-fits, row-offset-fits, row-asked, place-fits, rows-turn, rows-end}
+use Rattle.btree_v2_write.proofs.Internal.{RowsLeft, rows-start, row-fits, row-next-fits, row-offset-fits, row-place, row-there, place-fits, rows-turn, rows-end}
 use Prim.Native.Nat.{_-_}
 use borrow.Author.Needs.{needs}
 use Rattle.btree_v2_write.proofs.node.put_own_rows.Statement.{statement}
@@ -21,7 +21,7 @@ put-own-rows-spec =
     (λ c κs. search needs)
     (λ c. search row-fits)
     (λ c. search row-offset-fits)
-    (λ c κs. row-asked _ _ _ _ _ _ _ (c .before .before .before .before .before .before .pre .1) (c .before .before .before .before .before .before .pre .2) _ _ _ _ _ (c .before .before .before .loop .inv) (c .before .before .loop-test .taken) (c .before .share .ensures))
+    (λ c κs. search (row-place, row-there))
     (λ c. search row-next-fits)
     (λ c. search place-fits)
     (λ c. search needs)

@@ -23,4 +23,6 @@ put-pointer-spec =
     let at = address .before .before in
     let start = at .before .before .before in
     let a = start .args in
-    (pointer-put (a .layout) _ _ _ _ _ (a .total-size) (a .j) _ _ _ (a .child) (start .pre .0) (at .node-address .ensures) (address .put-number .ensures .0) (address .put-number .ensures .1) (records .put-number2 .ensures .0) (records .put-number2 .ensures .1) (total .put-number3 .ensures .0), omega arith)))
+    let both = pointer-put (a .layout) _ _ _ _ _ (a .total-size) (a .j) _ _ _ (a .child) (start .pre .0) (at .node-address .ensures) in
+    let address-end = address .put-number .ensures .1 in
+    (both (address .put-number .ensures .0) address-end (records .put-number2 .ensures .0) (records .put-number2 .ensures .1) (total .put-number3 .ensures .0), omega arith)))

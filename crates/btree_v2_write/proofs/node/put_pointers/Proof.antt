@@ -1,5 +1,5 @@
 -- The loop of `put_pointers`: what is left, stored at the place reached, gives the whole.
-use Rattle.btree_v2_write.proofs.Internal.{PointersLeft, pointers-start, pointer-asked, next-fits, pointers-turn, pointers-end}
+use Rattle.btree_v2_write.proofs.Internal.{PointersLeft, pointers-start, pointer-room, pointer-some, pointer-short, next-fits, pointers-turn, pointers-end}
 use Prim.Native.Nat.{_+_, _-_}
 use borrow.Author.Needs.{needs}
 use native.Mathlib.Omega.{arith}
@@ -20,7 +20,7 @@ put-pointers-spec =
     μ-loop
     (λ c. search pointers-start)
     (λ c κs. search needs)
-    (λ c κs. pointer-asked _ _ _ _ _ _ _ _ _ _ _ _ _ _ (c .before .before .before .loop .inv) (c .before .before .loop-test .taken) (c .before .one-of .ensures) (c .before .before .before .before .before .pre .0) (c .before .before .before .before .before .pre .1) (c .before .before .before .before .before .pre .2) (c .before .before .before .before .before .pre .3) (c .before .before .before .before .before .pre .4))
+    (λ c κs. search (pointer-room, pointer-some, pointer-short))
     (λ c. search next-fits)
     (λ c. omega (arith, c .before .before .before .before .before .before .loop-test .taken, c .before .before .before .before .before .before .before .before .before .pre .5))
     (λ c. omega (arith, c .before .before .before .before .before .before .loop-test .taken))
