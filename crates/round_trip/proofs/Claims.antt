@@ -37,7 +37,7 @@ use Rattle.btree_v2.specs.Answers.{collectedCells}
 use Rattle.btree_v2_write.specs.Call.{Wrote}
 use Rattle.round_trip.specs.declared.RoundTrip.{RoundTrip}
 use Rattle.round_trip.specs.Nodes.{nodeRecords}
-use Rattle.round_trip.specs.ThreeCalls.{Lent, readBack, Holds, Complete, Answered}
+use Rattle.round_trip.specs.ThreeCalls.{Lent, onHeader, Collects, readBack, Holds, Complete, Answered}
 use Rattle.round_trip.proofs.Roots.{root-address, root-records}
 
 -- An accepted walk's cells: the verdict accepts, and each count is the walk's, held.
@@ -122,13 +122,13 @@ module _ (q : Request) (p : BTreeV2Plan) (s : Lent) (ok : written q (s .records)
   whole = rw (back .header) (back .output)
 
   pub complete : (r : RoundTrip) (o : List ℕ) → headerAnswerOf (r .header) ≡ parsed (s .file) (s .place) (q .ow) (q .lw)
-      → collectedCells (r .collected) ≡ runCells (readBack q s) → o ≡ runOutput (readBack q s) → Complete q p (s .records) (s .output) r o
+      → Collects (readBack q s) (r .collected) o → Complete q p (s .records) (s .output) r o
   unfolding runCells headerWritten
-  complete r o hp hc ho =
-      let t = told (r .collected .verdict) (r .collected .tally) (back .counts) (rw whole at hc) in
+  complete r o hp run =
+      let t = told (r .collected .verdict) (r .collected .tally) (back .counts) (rw whole at (run .cells)) in
       let b = back in
       let f = same in
-      let put : o ≡ s .records ++ drop (q .n * q .rs) (s .output) = rw whole at ho in
+      let put : o ≡ s .records ++ drop (q .n * q .rs) (s .output) = rw whole at (run .output) in
       record {
         header = rw (f .depth, f .nodes, root-address q, root-records q) (hp ∙ back .header);
         collected = t .verdict;
@@ -141,43 +141,33 @@ module _ (q : Request) (p : BTreeV2Plan) (s : Lent) (ok : written q (s .records)
         atMost = rw (f .nodes) (b .atMost);
       }
 
--- What the write and the header reader have answered and left.
-pub record Read (q : Request) (s : Lent) (x : PlanAnswer) (h i : List ℕ) (p : HeaderAnswer) : Type 0 where
-  pub small : q .rs < 65536
-  pub wrote : Wrote q (s .records) (s .header) (s .image) (planAnswerOf x) h i
-  pub told : headerAnswerOf p ≡ parsed (s .file) (s .place) (q .ow) (q .lw)
+-- `collect_parsed`, by the header reader's answer.
+module _ (file : List ℕ) (ow : ℕ) (out : List ℕ) (p : HeaderAnswer) where
+  pub collects-parsed : (found : BTreeV2Header) (c : Collected) (o : List ℕ) → p ≡ header.Parsed found
+      → collectedCells c ≡ runCells (collected file (fieldsOf found) ow out) → o ≡ runOutput (collected file (fieldsOf found) ow out)
+      → Collects (onHeader (headerAnswerOf p) file ow out) c o
+  collects-parsed found c o e hc ho = rw e (record { cells = hc; output = ho })
 
-module _ {q : Request} {s : Lent} {x : PlanAnswer} {h i : List ℕ} {p : HeaderAnswer} (k : Read q s x h i p) where
-  answered : (c : Collected) (o : List ℕ) → collectedCells c ≡ runCells (readBack q s) → o ≡ runOutput (readBack q s)
+  pub collects-refused : (cause : Refusal) → p ≡ header.Refused cause
+      → Collects (onHeader (headerAnswerOf p) file ow out) (nothing cause) out
+  unfolding runCells
+  collects-refused cause e = let t = refused-is cause in record { cells = rw (e, t .2); output = rw (e, t .2) }
+
+-- The three calls.
+module _ (q : Request) (s : Lent) (x : PlanAnswer) (h i : List ℕ) (p : HeaderAnswer) (c : Collected) (o : List ℕ) where
+  pub answered : q .rs < 65536 → Wrote q (s .records) (s .header) (s .image) (planAnswerOf x) h i
+      → headerAnswerOf p ≡ parsed (s .file) (s .place) (q .ow) (q .lw) → Collects (onHeader (headerAnswerOf p) (s .file) (q .ow) (s .output)) c o
       → Answered q s (record { written = x; header = p; collected = c }) h i o
-  answered c o hc ho =
-      let w = k .wrote in
+  unfolding readBack
+  answered small w told run =
+      let r = rw told at run in
       record {
         written = w .answered;
         headerLeft = w .headerLeft;
         imageLeft = w .imageLeft;
-        parsed = k .told;
-        collected = hc;
-        outputLeft = ho;
+        parsed = told;
+        collected = r;
         complete = λ plan e some holds long.
             let ok = sym (w .answered) ∙ ap planAnswerOf e in
-            complete q plan s ok (k .small) some h i (w .headerLeft) (w .imageLeft) holds long _ o (k .told) hc ho;
+            complete q plan s ok small some h i (w .headerLeft) (w .imageLeft) holds long _ o told r;
       }
-
-  -- The two ways out.
-  pub answered-parsed : (found : BTreeV2Header) (c : Collected) (o : List ℕ) → p ≡ header.Parsed found
-      → collectedCells c ≡ runCells (collected (s .file) (fieldsOf found) (q .ow) (s .output))
-      → o ≡ runOutput (collected (s .file) (fieldsOf found) (q .ow) (s .output))
-      → Answered q s (record { written = x; header = header.Parsed found; collected = c }) h i o
-  unfolding readBack
-  answered-parsed found c o e hc ho =
-      let back : readBack q s ≡ collected (s .file) (fieldsOf found) (q .ow) (s .output) = rw (← k .told, e) in
-      rw e at (answered c o (rw back hc) (rw back ho))
-
-  pub answered-refused : (cause : Refusal) → p ≡ header.Refused cause
-      → Answered q s (record { written = x; header = header.Refused cause; collected = nothing cause }) h i (s .output)
-  unfolding readBack runCells
-  answered-refused cause e =
-      let t = refused-is cause in
-      let back : readBack q s ≡ stopped (t .0) (t .1) noCounts (s .output) = rw (← k .told, e, t .2) in
-      rw e at (answered (nothing cause) (s .output) (rw (back, t .2)) (rw back))

@@ -15,6 +15,7 @@ use Rattle.format.specs.Walk.{Run, stopped, noCounts}
 use Rattle.format.specs.Reading
 use Rattle.format.specs.Reading.{Header, runCells, runOutput}
 use Rattle.btree_v2_header.specs.Answers.{headerAnswerOf}
+use Rattle.btree_v2.specs.declared.Collected.{Collected}
 use Rattle.btree_v2.specs.Answers.{collectedCells}
 use Rattle.round_trip.specs.declared.RoundTrip.{RoundTrip}
 use Rattle.round_trip.specs.Nodes.{nodeAddress, nodeRecords}
@@ -45,6 +46,11 @@ headerFrom figures =
 abbrev pub onHeader : Answer → List ℕ → ℕ → List ℕ → Run
 onHeader (accepted figures) file ow output = Reading.collected file (headerFrom figures) ow output
 onHeader (refused number values) file ow output = stopped number values noCounts output
+
+-- A collecting's answer and the output at exit are those of a run.
+pub record Collects (run : Run) (c : Collected) (outputLast : List ℕ) : Type 0 where
+  pub cells : collectedCells c ≡ runCells run
+  pub output : outputLast ≡ runOutput run
 
 -- The header reader at the place, and the collector on its answer.
 unfoldable pub readBack : Request → Lent → Run
@@ -77,7 +83,6 @@ pub record Answered (q : Request) (s : Lent) (r : RoundTrip) (headerLast imageLa
   pub headerLeft : headerLast ≡ headerExit q (s .records) (s .header) (s .image)
   pub imageLeft : imageLast ≡ imageExit q (s .records) (s .header) (s .image)
   pub parsed : headerAnswerOf (r .header) ≡ Reading.parsed (s .file) (s .place) (q .ow) (q .lw)
-  pub collected : collectedCells (r .collected) ≡ runCells (readBack q s)
-  pub outputLeft : outputLast ≡ runOutput (readBack q s)
+  pub collected : Collects (readBack q s) (r .collected) outputLast
   pub complete : (p : BTreeV2Plan) → r .written ≡ Planned p → 1 ≤ q .n → Holds q p (s .file) (s .place) headerLast imageLast
       → q .n * q .rs ≤ length (s .output) → Complete q p (s .records) (s .output) r outputLast
