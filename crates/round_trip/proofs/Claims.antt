@@ -1,24 +1,22 @@
 -- Demand 3 on the three calls, from the complete return of records on the definitions.
 use mathlib.Core.Path.{_≡_, refl, sym, _∙_, ap}
 use mathlib.Core.List.{List, [], _∷_, _++_}
-use Prim.Native.Nat.{ℕ, _+_, _-_, _*_, _^_, _≤_, _<_}
+use Prim.Native.Nat.{ℕ, _+_, _-_, _*_, _≤_, _<_}
 use native.Mathlib.Omega.{arith}
 use lib.ListN.{length, getD, take, drop}
 use lib.Seq.{take-at, drop-at}
-use Rattle.fields.specs.Numbers.{part, held}
+use Rattle.fields.specs.Numbers.{held}
 use Rattle.refusal.specs.declared.Refusal.{Refusal}
-use Rattle.refusal.specs.Answer.{Answer, accepted, refused, refusalOf, cells, verdictOf}
+use Rattle.refusal.specs.Answer.{accepted, refused, cells, verdictOf}
 use Rattle.refusal.proofs.Answers.{refused-is}
 use Rattle.plan.specs.declared.PlanAnswer.{PlanAnswer}
 use Rattle.plan.specs.declared.BTreeV2Plan.{BTreeV2Plan}
 use Rattle.plan.specs.Tree
 use Rattle.plan.specs.Planned.{planned, planFigures, planAnswerOf}
 use Rattle.plan.proofs.Checks.{Plannable, accepted-plannable}
-use Rattle.format.specs.Writing as Writing
-use Rattle.format.specs.Writing.{Request, depthOf, nodesOf, headerOf, imageOf, written, headerExit, imageExit, over}
-use Rattle.format.specs.Walk.{Counts, Run, fine, stopped, noCounts}
-use Rattle.format.specs.Reading as Reading
-use Rattle.format.specs.Reading.{Header, headerFigures, parsed, collected, runCells, runOutput, countCells}
+use Rattle.format.specs.Writing.{Request, depthOf, nodesOf, rootOf, rootRecordsOf, headerOf, imageOf, written, headerExit, imageExit, over}
+use Rattle.format.specs.Walk.{Counts, fine}
+use Rattle.format.specs.Reading.{parsed, collected, runCells, runOutput, countCells}
 use Rattle.format.specs.Return.{Stands, headerWritten, Returned}
 use Rattle.format.proofs.Accepted.{Accepts, accepts, plan-accepted}
 use Rattle.format.proofs.Collected.{image-long}
@@ -36,7 +34,7 @@ use Rattle.btree_v2_header.specs.Answers.{fieldsOf, headerAnswerOf}
 use Rattle.btree_v2.specs.Answers.{collectedCells}
 use Rattle.btree_v2_write.specs.Call.{Wrote}
 use Rattle.round_trip.specs.declared.RoundTrip.{RoundTrip}
-use Rattle.round_trip.specs.Nodes.{nodeRecords}
+use Rattle.round_trip.specs.Nodes.{nodeAddress, nodeRecords}
 use Rattle.round_trip.specs.ThreeCalls.{Lent, onHeader, Collects, readBack, Holds, Complete, Answered}
 use Rattle.round_trip.proofs.Roots.{root-address, root-records}
 
@@ -128,9 +126,11 @@ module _ (q : Request) (p : BTreeV2Plan) (s : Lent) (ok : written q (s .records)
       let t = told (r .collected .verdict) (r .collected .tally) (back .counts) (rw whole at (run .cells)) in
       let b = back in
       let f = same in
+      let address : rootOf q ≡ nodeAddress q (p .nodes - 1) = rw (f .nodes, root-address q) in
+      let own : rootRecordsOf q ≡ nodeRecords q (p .nodes - 1) = rw (f .nodes, root-records q) in
       let put : o ≡ s .records ++ drop (q .n * q .rs) (s .output) = rw whole at (run .output) in
       record {
-        header = rw (f .depth, f .nodes, root-address q, root-records q) (hp ∙ back .header);
+        header = rw (address, own, ← f .depth) at (hp ∙ back .header);
         collected = t .verdict;
         front = rw put (take-at (s .records) (drop (q .n * q .rs) (s .output)) (q .n * q .rs) (accept .records));
         rest = rw put (drop-at (s .records) (drop (q .n * q .rs) (s .output)) (q .n * q .rs) (accept .records));

@@ -29,6 +29,10 @@ pub record Lent : Type 0 where
   pub place : ℕ
   pub output : List ℕ
 
+abbrev pub lent : List ℕ → List ℕ → List ℕ → List ℕ → ℕ → List ℕ → Lent
+lent records header image file place output =
+    record { records = records; header = header; image = image; file = file; place = place; output = output }
+
 -- The header that an answer's figures say.
 abbrev pub headerFrom : List ℕ → Header
 headerFrom figures =

@@ -2,7 +2,7 @@
 
 ghost use Rattle.btree_v2_write.specs.Call.{asked};
 ghost use Rattle.btree_v2_header.specs.Answers.{headerAnswerOf};
-ghost use Rattle.round_trip.specs.ThreeCalls.{onHeader, Collects, Answered};
+ghost use Rattle.round_trip.specs.ThreeCalls.{lent, onHeader, Collects, Answered};
 use btree_v2::Collected;
 use btree_v2::Tally;
 use btree_v2_header::BTreeV2Header;
@@ -58,7 +58,11 @@ pub fn round_trip(
     place: u64,
     output: &mut [u8],
 ) -> RoundTrip
-    ensures { λ r. ⌜ Answered (asked «tree_type» «record_count» «record_size» «node_size» «offset_size» «length_size» start) (record { records = now (records .entry); header = now (header .entry); image = now (image .entry); file = now (file .entry); place = place; output = now (output .entry) }) r (now (header .exit)) (now (image .exit)) (now (output .exit)) ⌝ }
+    ensures { λ r. ⌜
+        Answered (asked «tree_type» «record_count» «record_size» «node_size» «offset_size» «length_size» start)
+        (lent (now (records .entry)) (now (header .entry)) (now (image .entry)) (now (file .entry)) place (now (output .entry)))
+        r (now (header .exit)) (now (image .exit)) (now (output .exit))
+        ⌝ }
 {
     let written = btree_v2_write::write(
         tree_type,

@@ -1,6 +1,6 @@
 -- The three calls, one after another.
 use Rattle.btree_v2_write.specs.Call.{asked}
-use Rattle.round_trip.specs.ThreeCalls.{Lent}
+use Rattle.round_trip.specs.ThreeCalls.{lent}
 use Rattle.round_trip.proofs.Claims.{answered}
 use borrow.Author.Needs.{needs}
 use Rattle.round_trip.proofs.round_trip.Statement.{statement}
@@ -23,13 +23,6 @@ round-trip-spec =
     let entry = write .before .before .before .before .before .before .before .before in
     let a = entry .args in
     let q = asked (a .tree-type) (a .record-count) (a .record-size) (a .node-size) (a .offset-size) (a .length-size) (a .start) in
-    let s : Lent =
-    record {
-      records = a .records .now;
-      header = a .header .now;
-      image = a .image .now;
-      file = a .file .now;
-      place = a .place;
-      output = a .output .now;
-    } in
-    answered q s _ _ _ _ _ _ (entry .fits .record-size .fits) (write .write .ensures) (parse .parse .ensures) (collect .collect-parsed .ensures)))
+    let s = lent (a .records .now) (a .header .now) (a .image .now) (a .file .now) (a .place) (a .output .now) in
+    answered q s (write .write .result) _ _ (parse .parse .result) (collect .collect-parsed .result) _ (entry .fits .record-size .fits)
+    (write .write .ensures) (parse .parse .ensures) (collect .collect-parsed .ensures)))
