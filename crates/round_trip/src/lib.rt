@@ -1,7 +1,8 @@
 // A write, the header reader and the collector, one after another: demand 3 as one claim on the three calls.
 
 ghost use Rattle.btree_v2_write.specs.Call.{asked};
-ghost use Rattle.round_trip.specs.Trip.{Tripped};
+ghost use Rattle.btree_v2_header.specs.Answers.{headerAnswerOf};
+ghost use Rattle.round_trip.specs.ThreeCalls.{lent, onHeader, Collects, Answered};
 use btree_v2::Collected;
 use btree_v2::Tally;
 use btree_v2_header::BTreeV2Header;
@@ -14,6 +15,31 @@ pub struct RoundTrip {
     pub written: PlanAnswer,
     pub header: HeaderAnswer,
     pub collected: Collected,
+}
+
+// Collects the tree of a header that was read, or hands its refusal on.
+fn collect_parsed(
+    file: &[u8],
+    parsed: HeaderAnswer,
+    offset_size: u8,
+    output: &mut [u8],
+) -> Collected
+    ensures { λ r. ⌜ Collects (onHeader (headerAnswerOf parsed) (now (file .entry)) «offset_size» (now (output .entry))) r (now (output .exit)) ⌝ }
+{
+    match parsed {
+        HeaderAnswer::Parsed(found) => {
+            btree_v2::collect::collect_btree_v2_records(file, found, offset_size, output)
+        }
+        HeaderAnswer::Refused(cause) => Collected {
+            verdict: Verdict::Refused(cause),
+            tally: Tally {
+                records: 0,
+                leaves: 0,
+                internals: 0,
+                inner: 0,
+            },
+        },
+    }
 }
 
 // Writes a tree, reads the header at a place of a file, and collects the tree of that header.
@@ -32,7 +58,11 @@ pub fn round_trip(
     place: u64,
     output: &mut [u8],
 ) -> RoundTrip
-    ensures { λ r. ⌜ Tripped (asked «tree_type» «record_count» «record_size» «node_size» «offset_size» «length_size» start) (record { records = now (records .entry); header = now (header .entry); image = now (image .entry); file = now (file .entry); place = place; output = now (output .entry) }) r (now (header .exit)) (now (image .exit)) (now (output .exit)) ⌝ }
+    ensures { λ r. ⌜
+        Answered (asked «tree_type» «record_count» «record_size» «node_size» «offset_size» «length_size» start)
+        (lent (now (records .entry)) (now (header .entry)) (now (image .entry)) (now (file .entry)) place (now (output .entry)))
+        r (now (header .exit)) (now (image .exit)) (now (output .exit))
+        ⌝ }
 {
     let written = btree_v2_write::write(
         tree_type,
@@ -47,32 +77,10 @@ pub fn round_trip(
         image,
     );
     let parsed = BTreeV2Header::parse(file, place, offset_size, length_size);
-    match parsed {
-        HeaderAnswer::Parsed(found) => {
-            let collected = btree_v2::collect::collect_btree_v2_records(
-                file,
-                found,
-                offset_size,
-                output,
-            );
-            RoundTrip {
-                written,
-                header: parsed,
-                collected,
-            }
-        }
-        HeaderAnswer::Refused(cause) => RoundTrip {
-            written,
-            header: parsed,
-            collected: Collected {
-                verdict: Verdict::Refused(cause),
-                tally: Tally {
-                    records: 0,
-                    leaves: 0,
-                    internals: 0,
-                    inner: 0,
-                },
-            },
-        },
+    let collected = collect_parsed(file, parsed, offset_size, output);
+    RoundTrip {
+        written,
+        header: parsed,
+        collected,
     }
 }

@@ -1,5 +1,7 @@
--- By the header reader's answer.
-use Rattle.round_trip.proofs.Claims.{tripped-parsed, tripped-refused}
+-- The three calls, one after another.
+use Rattle.btree_v2_write.specs.Call.{asked}
+use Rattle.round_trip.specs.ThreeCalls.{lent}
+use Rattle.round_trip.proofs.Claims.{answered}
 use borrow.Author.Needs.{needs}
 use Rattle.round_trip.proofs.round_trip.Statement.{statement}
 use Rattle.round_trip.proofs.round_trip.Tie as tie
@@ -10,13 +12,17 @@ round-trip-spec =
     (tie.spec
     (λ c κs. search needs)
     (λ c κs. search needs)
-    (λ c. search needs)
     (λ c κs. search needs)
     (λ c. search needs)
     (λ c. search needs)
     (λ c. search needs)
-    (λ c. search needs)
-    (λ c. tripped-parsed _ _ (c .before .before .before .before .before .before .before .before .before .before .before .before .before .before .before .before .before .before .before .before .fits .record-size .fits) _ _ _ (c .before .before .before .before .before .before .before .before .before .before .before .before .write .ensures) _ _ _ _ (c .before .before .before .before .before .parsed .given .1) (c .before .before .before .before .before .before .before .parse .ensures) (c .before .before .collect-btree-v2-records .ensures .0) (c .before .before .collect-btree-v2-records .ensures .1))
-    (λ c. search needs)
-    (λ c. search needs)
-    (λ c. tripped-refused _ _ (c .before .before .before .before .before .before .before .before .before .before .before .before .before .before .before .before .fits .record-size .fits) _ _ _ (c .before .before .before .before .before .before .before .before .write .ensures) _ _ (c .before .parsed2 .given .1) (c .before .before .before .parse .ensures)))
+    (λ c.
+    let collect = c .before .before in
+    let parse = collect .before .before in
+    let write = parse .before .before .before .before .before in
+    let entry = write .before .before .before .before .before .before .before .before in
+    let a = entry .args in
+    let q = asked (a .tree-type) (a .record-count) (a .record-size) (a .node-size) (a .offset-size) (a .length-size) (a .start) in
+    let s = lent (a .records .now) (a .header .now) (a .image .now) (a .file .now) (a .place) (a .output .now) in
+    answered q s (write .write .result) _ _ (parse .parse .result) (collect .collect-parsed .result) _ (entry .fits .record-size .fits)
+    (write .write .ensures) (parse .parse .ensures) (collect .collect-parsed .ensures)))

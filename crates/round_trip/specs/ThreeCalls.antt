@@ -1,0 +1,92 @@
+-- A write, the header reader and the collector, one after another: what they answer and leave, and the complete return of records as a claim on
+-- what the three calls returned. From document 01, "Collecting".
+use mathlib.Core.Path.{_≡_}
+use mathlib.Core.List.{List, [], _∷_}
+use Prim.Native.Nat.{ℕ, _+_, _-_, _*_, _≤_}
+use lib.ListN.{length, getD, take, drop}
+use Rattle.fields.specs.Numbers.{part}
+use Rattle.refusal.specs.Answer.{Answer, accepted, refused, verdictOf}
+use Rattle.plan.specs.declared.BTreeV2Plan.{BTreeV2Plan}
+use Rattle.plan.specs.declared.PlanAnswer.the-variants.{Planned}
+use Rattle.plan.specs.Planned.{planAnswerOf}
+use Rattle.format.specs.Writing
+use Rattle.format.specs.Writing.{Request, headerExit, imageExit}
+use Rattle.format.specs.Walk.{Run, stopped, noCounts}
+use Rattle.format.specs.Reading
+use Rattle.format.specs.Reading.{Header, runCells, runOutput}
+use Rattle.btree_v2_header.specs.Answers.{headerAnswerOf}
+use Rattle.btree_v2.specs.declared.Collected.{Collected}
+use Rattle.btree_v2.specs.Answers.{collectedCells}
+use Rattle.round_trip.specs.declared.RoundTrip.{RoundTrip}
+use Rattle.round_trip.specs.Nodes.{nodeAddress, nodeRecords}
+
+-- What the three calls are lent: the record list, the header buffer, the image buffer, the file, the place of the header in it, and the output.
+pub record Lent : Type 0 where
+  pub records : List ℕ
+  pub header : List ℕ
+  pub image : List ℕ
+  pub file : List ℕ
+  pub place : ℕ
+  pub output : List ℕ
+
+abbrev pub lent : List ℕ → List ℕ → List ℕ → List ℕ → ℕ → List ℕ → Lent
+lent records header image file place output =
+    record { records = records; header = header; image = image; file = file; place = place; output = output }
+
+-- The header that an answer's figures say.
+abbrev pub headerFrom : List ℕ → Header
+headerFrom figures =
+    record {
+      treeType = getD figures 0 0;
+      ns = getD figures 1 0;
+      rs = getD figures 2 0;
+      depth = getD figures 3 0;
+      root = getD figures 4 0;
+      rootRecords = getD figures 5 0;
+      records = getD figures 6 0;
+    }
+
+-- Collecting the tree of the header that was read; a refused header ends the reading with its refusal.
+abbrev pub onHeader : Answer → List ℕ → ℕ → List ℕ → Run
+onHeader (accepted figures) file ow output = Reading.collected file (headerFrom figures) ow output
+onHeader (refused number values) file ow output = stopped number values noCounts output
+
+-- A collecting's answer and the output at exit are those of a run.
+pub record Collects (run : Run) (c : Collected) (outputLast : List ℕ) : Type 0 where
+  pub cells : collectedCells c ≡ runCells run
+  pub output : outputLast ≡ runOutput run
+
+-- The header reader at the place, and the collector on its answer.
+unfoldable pub readBack : Request → Lent → Run
+readBack q s = onHeader (Reading.parsed (s .file) (s .place) (q .ow) (q .lw)) (s .file) (q .ow) (s .output)
+
+-- The file holds, at the place, the header's bytes that the write left, and from start on the bytes of its nodes, NS for each of the nodes that
+-- it answered.
+pub record Holds (q : Request) (p : BTreeV2Plan) (file : List ℕ) (place : ℕ) (headerLast imageLast : List ℕ) : Type 0 where
+  pub header : part file place (22 + q .ow + q .lw) ≡ take (22 + q .ow + q .lw) headerLast
+  pub nodes : part file (q .start) (p .nodes * q .ns) ≡ take (p .nodes * q .ns) imageLast
+
+-- What demand 3 lists, of the plan p that the write answered: the header as written, its root the last of the nodes; collecting accepted; the
+-- records written at the front of the output, and its other bytes as they were; N records put out; leaves as answered, one more than the
+-- records from internal nodes; leaves and internal nodes together the nodes answered, at most N.
+pub record Complete (q : Request) (p : BTreeV2Plan) (recs out : List ℕ) (r : RoundTrip) (outputLast : List ℕ) : Type 0 where
+  pub header : headerAnswerOf (r .header)
+      ≡ accepted (q .treeType ∷ q .ns ∷ q .rs ∷ p .depth ∷ nodeAddress q (p .nodes - 1) ∷ nodeRecords q (p .nodes - 1) ∷ q .n ∷ [])
+  pub collected : verdictOf (r .collected .verdict) ≡ accepted []
+  pub front : take (q .n * q .rs) outputLast ≡ recs
+  pub rest : drop (q .n * q .rs) outputLast ≡ drop (q .n * q .rs) out
+  pub putOut : r .collected .tally .records ≡ q .n
+  pub leaves : r .collected .tally .leaves ≡ p .leaves
+  pub oneMore : r .collected .tally .leaves ≡ r .collected .tally .inner + 1
+  pub allNodes : r .collected .tally .leaves + r .collected .tally .internals ≡ p .nodes
+  pub atMost : p .nodes ≤ q .n
+
+-- The three calls: the answers and the buffers at exit are those of the three definitions; and demand 3.
+pub record Answered (q : Request) (s : Lent) (r : RoundTrip) (headerLast imageLast outputLast : List ℕ) : Type 0 where
+  pub written : planAnswerOf (r .written) ≡ Writing.written q (s .records) (s .header) (s .image)
+  pub headerLeft : headerLast ≡ headerExit q (s .records) (s .header) (s .image)
+  pub imageLeft : imageLast ≡ imageExit q (s .records) (s .header) (s .image)
+  pub parsed : headerAnswerOf (r .header) ≡ Reading.parsed (s .file) (s .place) (q .ow) (q .lw)
+  pub collected : Collects (readBack q s) (r .collected) outputLast
+  pub complete : (p : BTreeV2Plan) → r .written ≡ Planned p → 1 ≤ q .n → Holds q p (s .file) (s .place) headerLast imageLast
+      → q .n * q .rs ≤ length (s .output) → Complete q p (s .records) (s .output) r outputLast
