@@ -24,13 +24,9 @@ use Rattle.btree_v2.specs.declared.Tally.{Tally}
 use Rattle.btree_v2.specs.declared.Collected.{Collected}
 use Rattle.btree_v2.specs.declared.collect.TreeSizes.{TreeSizes}
 use Rattle.btree_v2_header.specs.Answers.{fieldsOf}
-use Rattle.btree_v2.specs.Answers.{collectedCells}
+use Rattle.btree_v2.specs.Answers.{Ends}
 use Rattle.btree_v2.specs.Collecting.{countsOf, tallyOf, runOf, heldRun, sourceAt, Readable, RootRead, Walked, nodeWalk}
 use Rattle.btree_v2.proofs.Holding.{held-held}
-
--- What the call promises of a walk that ends as x.
-abbrev Ends : Run → Collected → List ℕ → Type 0
-Ends x r o = (collectedCells r ≡ runCells x) × (o ≡ runOutput x)
 
 -- Held counts or exact ones: the same cells and output.
 cells-held : (x : Run) → runCells (heldRun x) ≡ runCells x

@@ -97,6 +97,13 @@ module _ (s : Source) (tests : Tests) (d a n : ℕ) (node : ℕ → ℕ → Coun
       (fun-ext (λ c1. fun-ext (children-split m k (i + 1) c1)))
       ∙ then-four (run m (i + 1)) (between (i + 1 + m)) (run k (i + 1 + m + 1)) (between i) (childRun s tests d a n node i c o))
 
+-- Depth and children left, as one number: a node has at most 65,536 children, and a half of them is less than all.
+abbrev pub falling : ℕ → ℕ → ℕ
+falling depth left = depth * 65537 + left
+
+pub first-falls : (k d left : ℕ) → falling d left ≡ k → 0 < left → falling d (left / 2) < k
+first-falls k d left e some = omega arith
+
 module _ (file : List ℕ) (z : TreeSizes) where
   abbrev s : Source
   s = sourceAt file z
@@ -281,6 +288,9 @@ module _ {file : List ℕ} {z : TreeSizes} {d a n i left : ℕ} {t o l : List �
           some = omega (arith, put .asked .some, put .more);
           within = put .walked .within;
         }
+
+    pub second-falls : {k : ℕ} → falling d left ≡ k → falling d (left - left / 2) < k
+    second-falls e = omega (arith, put .asked .some, put .more)
 
     pub second-reads : (u : Verdict) (t3 o3 : List ℕ)
         → Walked z (second-half file z d a n i left t o (countsOf (put .tally)) (put .output)) u t3 o3 → Reads file z d a n i left t o u t3 o3

@@ -8,7 +8,7 @@ ghost use Rattle.refusal.specs.Answer.{accepted, verdictOf};
 ghost use Rattle.format.specs.Walk.{oneLeaf, oneInternal, oneInner, putRecords, pointerPlace, childAddress, childRecords};
 ghost use Rattle.format.specs.Reading.{internalTest, collected, runCells, runOutput};
 ghost use Rattle.btree_v2_header.specs.Answers.{fieldsOf};
-ghost use Rattle.btree_v2.specs.Answers.{collectedCells};
+ghost use Rattle.btree_v2.specs.Answers.{collectedCells, Ends};
 ghost use Rattle.btree_v2.specs.Collecting.{countsOf, tallyOf, heldCounts, sourceAt, Readable, Within, ChildrenLeft, RootRead, Walked, sizesAbove, nodeWalk, innerWalk, childrenWalk};
 use crate::Collected;
 use crate::Tally;
@@ -312,10 +312,10 @@ fn tally_of(tally: &[u64; 4]) -> Tally
     }
 }
 
-// Collects from the root on.
+// Collects from the root on: the sizes of the tree by the capacity table, and the walk.
 fn collect_root(file: &[u8], header: BTreeV2Header, offset_size: u8, output: &mut [u8]) -> Collected
     requires { ⌜ RootRead header ⌝ }
-    ensures { λ r. ⌜ (collectedCells r ≡ runCells (collected (now (file .entry)) (fieldsOf header) «offset_size» (now (output .entry)))) × (now (output .exit) ≡ runOutput (collected (now (file .entry)) (fieldsOf header) «offset_size» (now (output .entry)))) ⌝ }
+    ensures { λ r. ⌜ Ends (collected (now (file .entry)) (fieldsOf header) «offset_size» (now (output .entry))) r (now (output .exit)) ⌝ }
 {
     let answer = NodeInfo::compute(
         header.node_size,

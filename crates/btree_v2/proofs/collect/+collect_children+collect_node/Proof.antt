@@ -1,11 +1,12 @@
--- The cycle of `collect_node` and `collect_children`: depth and children left make one falling number.
-use mathlib.Core.Path.{refl}
-use Prim.Native.Nat.{ℕ, _+_, _*_, _<_}
+-- The cycle of node step and child step, `collect_node` and `collect_children`: depth and children left make one falling number.
+use mathlib.Core.Path.{_≡_, refl}
+use Prim.Native.Nat.{ℕ, _<_}
 use native.Mathlib.Omega.{arith}
 use borrow.Author.Needs.{needs}
 use borrow.Fn.Kinds.{In}
 use borrow.Fn.PlainCycle.{Measures, is, falls, and}
-use Rattle.btree_v2.proofs.Steps.{node-leaf, node-stops, node-passed, node-reads, internal-within, one-reads, first-stops, FirstRead, RecordPut, first-asked, second-asked, record-stops, record-put, second-reads, walked-accepted, readable-under}
+use Rattle.btree_v2.proofs.Steps.{node-leaf, node-stops, node-passed, node-reads, internal-within, readable-under, walked-accepted}
+use Rattle.btree_v2.proofs.Steps.{falling, one-reads, first-falls, first-asked, first-stops, FirstRead, record-stops, record-put, RecordPut, second-falls, second-asked, second-reads}
 use Rattle.btree_v2.proofs.collect.collect_children.Reads as collect-children
 use Rattle.btree_v2.proofs.collect.collect_children.Kinds as collect-children-kinds
 use Rattle.btree_v2.proofs.collect.+collect_children+collect_node.Lts-collect_children as collect-children-lts
@@ -21,10 +22,10 @@ use Rattle.btree_v2.proofs.collect.+collect_children+collect_node.{stat
 use Rattle.btree_v2.proofs.collect.+collect_children+collect_node.Tie.{close}
 
 abbrev μ-collect-children : Measures 4 collect-children-kinds.ps ℕ
-μ-collect-children κs a = a .1 .1 .1 .0 * 65537 + a .1 .1 .1 .1 .1 .1 .1 .0
+μ-collect-children κs a = falling (a .1 .1 .1 .0) (a .1 .1 .1 .1 .1 .1 .1 .0)
 
 abbrev μ-collect-node : Measures 4 collect-node-kinds.ps ℕ
-μ-collect-node κs a = a .1 .1 .1 .0 * 65537
+μ-collect-node κs a = falling (a .1 .1 .1 .0) 0
 
 abbrev collect-children-at : ℕ → In 4 collect-children-kinds.ps
 collect-children-at t = and 4 collect-children-kinds.ps (is 4 collect-children-kinds.ps μ-collect-children t) collect-children.Pre
@@ -39,7 +40,7 @@ collect-node-at t = and 4 collect-node-kinds.ps (is 4 collect-node-kinds.ps μ-c
 abbrev collect-node-below : ℕ → In 4 collect-node-kinds.ps
 collect-node-below t = and 4 collect-node-kinds.ps (falls 4 collect-node-kinds.ps _<_ μ-collect-node t) collect-node.Pre
 
--- What is known at places of the child step: where its first half is read, and where the record between is put out.
+-- What is known at places of the child step: where one child is left, where the first half is read, and where the record between is put out.
 module _ (t : ℕ) where
   abbrev claims : collect-children-lts.Claims
   claims =
@@ -48,11 +49,22 @@ module _ (t : ℕ) where
   abbrev Start : Type 0
   Start = collect-children-lts.Start claims (collect-children-at t) collect-children.Post
 
+  abbrev OneLeft : Type 0
+  OneLeft = collect-children-lts.Then1 claims (collect-children-at t) collect-children.Post
+
   abbrev AfterFirst : Type 0
   AfterFirst = collect-children-lts.After-enum-told3 claims (collect-children-at t) collect-children.Post
 
   abbrev AfterRecord : Type 0
   AfterRecord = collect-children-lts.After-enum-told5 claims (collect-children-at t) collect-children.Post
+
+  one : (c : OneLeft) → c .before .before .before .args .left ≡ 1
+  one c = c .if1 .taken
+
+  first-asks : collect-children-lts.Need-collect-children-requires claims (collect-children-at t) collect-children.Post
+  first-asks c κs =
+      let start = c .before .before .before .before .before .pre in
+      (first-falls _ _ _ (start .0) (start .1 .some), search first-asked)
 
   abbrev entry : AfterFirst → Start
   entry c = c .before .before .before .before .before .before .before .before .before .before
@@ -91,10 +103,10 @@ pub +collect-children+collect-node-spec : {M : Type 1} → statement M
     (λ c. search needs)
     (λ c. search needs)
     (λ c. search needs)
-    (λ c. search one-reads)
+    (λ c. search (one-reads, one t (c .before .before .before .before .before .before .before .before)))
     (λ c. search needs)
-    (λ c. search (walked-accepted, one-reads))
-    (λ c κs. (omega arith, search first-asked))
+    (λ c. search (walked-accepted, one-reads, one t (c .before .before .before .before .before .before .before .before)))
+    (first-asks t)
     (λ c. search needs)
     (λ c. search needs)
     (λ c. search needs)
@@ -108,7 +120,7 @@ pub +collect-children+collect-node-spec : {M : Type 1} → statement M
     (λ c. record-stops (first t (c .before .before .before .before .before .before .before)) _ _ _ _ (c .before .before .before .before .put-inner .ensures) refl _ (c .enum-told6 .given .1))
     (λ c. search needs)
     (λ c. search needs)
-    (λ c κs. let p = put t (c .before .before) in let e = entry t (first-of t (c .before .before)) .pre .0 in (omega arith, second-asked p))
+    (λ c κs. let p = put t (c .before .before) in (second-falls p (entry t (first-of t (c .before .before)) .pre .0), second-asked p))
     (λ c. search needs)
     (λ c. search needs)
     (λ c. search needs)
