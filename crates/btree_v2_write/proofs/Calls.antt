@@ -18,15 +18,15 @@ use Rattle.node_info.specs.declared.NodeInfo.{NodeInfo}
 use Rattle.node_info.specs.Capacity.{totalWidth, subtreeCapacity}
 use Rattle.node_info.specs.Table.{infoAt}
 use Rattle.node_info.proofs.Columns.{total-entry, subtree-entry}
-use Rattle.node_info.proofs.Depth.{depth-le, depth-small}
 use Rattle.plan.specs.declared.BTreeV2Plan.{BTreeV2Plan}
 use Rattle.plan.specs.declared.PlanAnswer.{PlanAnswer}
 use Rattle.plan.specs.declared.PlanAnswer.the-variants as plan-answer
 use Rattle.plan.specs.Tree.{Tree, count, nodes, below}
-use Rattle.plan.specs.Planned.{planDepth, planned, planFigures, planAnswerOf}
+use Rattle.plan.specs.Planned.{planned, planFigures, planAnswerOf}
 use Rattle.plan.proofs.Accepted.{planned-none, planned-size}
 use Rattle.plan.proofs.Trees.{Everywhere}
 use Rattle.plan.proofs.Checks.{Plannable, accepted-plannable}
+use Rattle.plan.proofs.Depths.{depth-le, depth-small}
 use Rattle.format.specs.Bytes.{Form, address, headerBytes, image}
 use Rattle.format.specs.Writing.{Request, formOf, depthOf, nodesOf, imageOf, rootOf, rootRecordsOf, headerOf, written, headerExit, imageExit}
 use Rattle.format.proofs.Lengths.{Fit}
@@ -68,8 +68,7 @@ module _ (r : own.Request) {p : BTreeV2Plan} {info : NodeInfo} {recs hdr img : L
   depth-is = let f = known .1 in cc
 
   low : depthOf q ≤ 32
-  unfolding planDepth
-  low = depth-le (q .ns) (q .rs) (q .ow) (q .n)
+  low = depth-le (q .n) (q .rs) (q .ns) (q .ow)
 
   form-is : formAt l ≡ formOf q
   unfolding formOf infoAt
@@ -97,8 +96,7 @@ module _ (r : own.Request) {p : BTreeV2Plan} {info : NodeInfo} {recs hdr img : L
   nodes-at = rw tree-is
 
   some-records : 1 ≤ depthOf q → 1 ≤ q .n
-  unfolding planDepth
-  some-records h = omega (arith, depth-small (q .ns) (q .rs) (q .ow) (q .n) 0 (omega arith))
+  some-records h = omega (arith, depth-small (q .n) (q .rs) (q .ns) (q .ow) 0 (omega arith))
 
   -- Every node fits, an empty leaf too.
   all-fit : Everywhere (Fit (formOf q)) (depthOf q) (planned (q .n) (q .rs) (q .ns) (q .ow))
