@@ -12,4 +12,4 @@ btree-v2-leaf-record-spec =
     (λ c κs. search needs)
     (λ c κs. search needs)
     (λ c. search needs)
-    (λ c. let copy = c .before .before .before .before .copy-leaf-record .ensures in (put-is (copy .answered) refl (c .put-record .ensures), copy .outputLeft)))
+    (λ c. let copy = c .before .before .before .before .copy-leaf-record .ensures in (put-is (copy .0) refl (c .put-record .ensures), copy .1)))
