@@ -14,6 +14,9 @@ use Rattle.btree_v2_header.specs.declared.BTreeV2Header.{BTreeV2Header}
 use Rattle.btree_v2_header.specs.declared.HeaderAnswer.{HeaderAnswer}
 use Rattle.btree_v2_header.specs.declared.HeaderAnswer.the-variants as header
 use Rattle.btree_v2_header.specs.Answers.{headerAnswerOf}
+use Rattle.leaf_view.specs.declared.RecordAnswer.{RecordAnswer}
+use Rattle.leaf_view.specs.declared.RecordAnswer.the-variants as copied
+use Rattle.leaf_view.specs.Answers.{recordAnswerOf}
 use Rattle.btree_v2.specs.declared.Collected.{Collected}
 use Rattle.btree_v2.specs.Answers.{collectedCells}
 
@@ -37,6 +40,15 @@ header-put e = rw e
 pub header-refused : {p : HeaderAnswer} (cause : Refusal) {n x y : ℕ} → p ≡ header.Refused cause → n ∷ x ∷ y ∷ [] ≡ cells 3 (refusalOf cause)
     → n ∷ x ∷ y ∷ 0 ∷ 0 ∷ 0 ∷ 0 ∷ 0 ∷ [] ≡ cells 8 (headerAnswerOf p)
 header-refused cause e told = rw e (told-more cause 5 told)
+
+-- The length of a record, or why it was not copied.
+pub record-put : {p : RecordAnswer} {k : ℕ} → p ≡ copied.Copied k → 0 ∷ k ∷ 0 ∷ [] ≡ cells 3 (recordAnswerOf p)
+unfolding cells
+record-put e = rw e
+
+pub record-refused : {p : RecordAnswer} (cause : Refusal) {t : List ℕ} → p ≡ copied.Refused cause → t ≡ cells 3 (refusalOf cause)
+    → t ≡ cells 3 (recordAnswerOf p)
+record-refused cause e told = rw e told
 
 -- What was collected: number and values, and the counts.
 pub collected-put : (r : Collected) {n x y : ℕ} → n ∷ x ∷ y ∷ [] ≡ cells 3 (verdictOf (r .verdict))

@@ -2,14 +2,15 @@
 // values, then zeros.
 
 ghost use mathlib.Core.Path.{_≡_};
-ghost use Rattle.refusal.specs.Answer.{cells, verdictOf};
+ghost use Rattle.refusal.specs.Answer.{cells};
 ghost use Rattle.plan.specs.Planned.{planAnswerOf};
 ghost use Rattle.btree_v2_header.specs.Answers.{headerAnswerOf};
+ghost use Rattle.leaf_view.specs.Answers.{recordAnswerOf};
 ghost use Rattle.btree_v2.specs.Answers.{collectedCells};
 use btree_v2::Collected;
 use btree_v2_header::HeaderAnswer;
+use leaf_view::RecordAnswer;
 use plan::PlanAnswer;
-use refusal::Verdict;
 
 // The plan's figures, which are those of a write too.
 pub fn put_plan(answer: &mut [u64; 5], planned: PlanAnswer)
@@ -74,10 +75,17 @@ pub fn put_collected(answer: &mut [u64; 7], collected: Collected)
     ];
 }
 
-// The refusal's number and values, zeros where there is none.
-pub fn put_verdict(answer: &mut [u64; 3], verdict: Verdict)
-    ensures { λ _. ⌜ now (answer .exit) ≡ cells 3 (verdictOf verdict) ⌝ }
+// The length of the record that was copied.
+pub fn put_record(answer: &mut [u64; 3], copied: RecordAnswer)
+    ensures { λ _. ⌜ now (answer .exit) ≡ cells 3 (recordAnswerOf copied) ⌝ }
 {
-    let told = verdict.told();
-    *answer = [told.number, told.first, told.second];
+    match copied {
+        RecordAnswer::Copied(length) => {
+            *answer = [0, length, 0];
+        }
+        RecordAnswer::Refused(cause) => {
+            let told = cause.told();
+            *answer = [told.number, told.first, told.second];
+        }
+    }
 }

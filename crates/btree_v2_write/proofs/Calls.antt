@@ -17,13 +17,13 @@ use Rattle.node_info.specs.Capacity.{totalWidth, subtreeCapacity}
 use Rattle.node_info.specs.Table.{infoAt}
 use Rattle.node_info.proofs.Capacities.{leaf-bytes, node-zero, subtree-zero}
 use Rattle.node_info.proofs.Columns.{total-entry, subtree-entry}
-use Rattle.node_info.proofs.Depth.{depth-le, depth-small}
 use Rattle.plan.specs.declared.BTreeV2Plan.{BTreeV2Plan}
 use Rattle.plan.specs.declared.PlanAnswer.{PlanAnswer}
 use Rattle.plan.specs.declared.PlanAnswer.the-variants as plan-answer
 use Rattle.plan.specs.Tree.{nodes, below}
-use Rattle.plan.specs.Planned.{planDepth, planned, planFigures, planAnswerOf}
+use Rattle.plan.specs.Planned.{planned, planFigures, planAnswerOf}
 use Rattle.plan.proofs.Checks.{Plannable, accepted-plannable}
+use Rattle.plan.proofs.Depths.{depth-le, depth-small}
 use Rattle.format.specs.Bytes.{address, headerBytes, image}
 use Rattle.format.specs.Writing.{Request, formOf, depthOf, nodesOf, imageOf, rootOf, rootRecordsOf, headerOf, written, headerExit, imageExit}
 use Rattle.format.proofs.Accepted.{Accepts, Roomy, accepts, roomy, plan-accepted}
@@ -66,8 +66,7 @@ module _ (r : own.Request) (p : BTreeV2Plan) (info : NodeInfo) (recs hdr img : L
   nodes-is = let f = known .1 in cc
 
   low : depthOf q ≤ 32
-  unfolding planDepth
-  low = depth-le (q .ns) (q .rs) (q .ow) (q .n)
+  low = depth-le (q .n) (q .rs) (q .ns) (q .ow)
 
   pub depth-low : p .depth ≤ 32
   depth-low = rw depth-is low
@@ -97,8 +96,7 @@ module _ (r : own.Request) (p : BTreeV2Plan) (info : NodeInfo) (recs hdr img : L
   one-node = omega arith
 
   some-records : (depthOf q ≡ 0 → ⊥) → 1 ≤ q .n
-  unfolding planDepth
-  some-records h = omega (arith, depth-small (q .ns) (q .rs) (q .ow) (q .n) 0 (omega arith))
+  some-records h = omega (arith, depth-small (q .n) (q .rs) (q .ns) (q .ow) 0 (omega arith))
 
   -- The image can be written.
   whole-at : Whole l (info .«cum_max_nrec») (info .«cum_max_nrec_size») (length recs) (length img) (depthOf q) (q .n)

@@ -13,8 +13,6 @@ ghost use Rattle.capi.specs.Given.{given};
 use btree_v2_header::BTreeV2Header;
 use node_info::NodeInfo;
 use plan::BTreeV2Plan;
-use refusal::Refusal;
-use refusal::Verdict;
 
 // The capacity table up to a depth: width of a record count, and for the levels 0 to 32 the records of a node, then those of a subtree,
 // then the width of a subtree's total.
@@ -128,8 +126,7 @@ pub extern "C" fn btree_v2_collect(
     answers::put_collected(answer, collected);
 }
 
-// Record `index` of a leaf, copied to the front of the output: its length, 0 where the index is not below the count. A record has bytes
-// where the leaf passes its tests, so only without any they are asked again, for the refusal.
+// Record `index` of a leaf, copied to the front of the output: its length, 0 where the index is not below the count.
 #[no_mangle]
 pub extern "C" fn btree_v2_leaf_record(
     file: &[u8],
@@ -143,18 +140,6 @@ pub extern "C" fn btree_v2_leaf_record(
     ensures answered { λ _. ⌜ now (answer .exit) ≡ cells 3 (recordAnswer (now (file .entry)) «record_size» address count index (now (output .entry))) ⌝ }
     ensures outputLeft { λ _. ⌜ now (output .exit) ≡ recordExit (now (file .entry)) «record_size» address count index (now (output .entry)) ⌝ }
 {
-    let record = leaf_view::leaf_record(file, address, count, record_size, index);
-    let length = record.len();
-    if length == 0 {
-        let verdict = leaf_view::check_view(file, address, count, record_size);
-        answers::put_verdict(answer, verdict);
-        return;
-    }
-    if output.len() < length {
-        let short = Refusal::OutputTooShort(output.len() as u64);
-        answers::put_verdict(answer, Verdict::Refused(short));
-        return;
-    }
-    fields::put_bytes(output, 0, record);
-    *answer = [0, length as u64, 0];
+    let copied = leaf_view::copy_leaf_record(file, address, count, record_size, index, output);
+    answers::put_record(answer, copied);
 }

@@ -1,6 +1,6 @@
 -- lookup3's hashlittle, start value 0, on a list of bytes: from lookup3.c (Bob Jenkins, May 2006).
 use Prim.Native.Nat.{ℕ, zero, suc, _+_, _-_, _*_, _/_, _%_, _^_}
-use mathlib.Core.Bool.{Bool, true, false}
+pub use mathlib.Core.Bool.{cond as pick}
 use mathlib.Core.List.{List, [], _∷_}
 use lib.Bits.{bitXor}
 use lib.Dec.{ltb}
@@ -56,10 +56,6 @@ blockAdded w d =
 unfoldable pub ended : Words → List ℕ → ℕ
 ended w [] = w .c
 ended w (x ∷ xs) = finalMixed (blockAdded w (x ∷ xs)) .c
-
-abbrev pub pick : {A : Type 0} → Bool → A → A → A
-pick true a b = a
-pick false a b = b
 
 -- Blocks of twelve bytes while more than twelve remain, and the end; k bounds the number of blocks.
 unfoldable pub blocks : ℕ → Words → List ℕ → ℕ

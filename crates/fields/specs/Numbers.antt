@@ -1,15 +1,12 @@
 -- Numbers in bytes: little-endian fields of any width, the byte width of a count, and the largest 64-bit number as a limit. From the
 -- HDF5 File Format Specification (integers are little-endian) and document 01, "Checksum and small numbers".
 use Prim.Native.Nat.{ℕ, zero, suc, _+_, _-_, _*_, _/_, _%_, _^_, min}
-use mathlib.Core.Bool.{Bool, true, false, _||_}
+use mathlib.Core.Bool.{Bool, _||_}
 use mathlib.Core.List.{List, [], _∷_}
 use lib.Dec.{ltb, eqb}
 use lib.ListN.{take, drop}
-
--- One of two values, by a test.
-abbrev pub pick : {A : Type 0} → Bool → A → A → A
-pick true a b = a
-pick false a b = b
+-- `pick t a b`: a where the test t holds, else b.
+pub use mathlib.Core.Bool.{cond as pick}
 
 -- x in w bytes, the lowest first.
 unfoldable pub le : ℕ → ℕ → List ℕ

@@ -11,13 +11,13 @@ use Rattle.fields.specs.Numbers.{part}
 use Rattle.fields.proofs.Lists.{stored-is}
 use Rattle.node_info.specs.Capacity.{leafCapacity, subtreeCapacity, nodeCapacity, pointerSize}
 use Rattle.node_info.proofs.Capacities.{node-le-leaf, count-fits, total-fits, leaf-bytes, internal-bytes}
-use Rattle.node_info.proofs.Depth.{depth-le}
 use Rattle.refusal.specs.Answer.{accepted}
 use Rattle.plan.specs.Tree.{Tree, count, size}
-use Rattle.plan.specs.Planned.{planDepth, planned}
+use Rattle.plan.specs.Planned.{planned}
 use Rattle.plan.proofs.Checks.{Plannable, accepted-plannable}
-use Rattle.plan.proofs.Plans.{plan-size, plan-filled, plan-within}
-use Rattle.plan.proofs.Depths.{depth-levels}
+use Rattle.plan.proofs.Plans.{plan-size, plan-filled}
+use Rattle.plan.proofs.Depths.{depth-le}
+use Rattle.plan.proofs.Accepted.{planned-within}
 use Rattle.plan.proofs.Trees.{Everywhere, everywhere-root, everywhere-both, Filled, Within, leaves-inner, nodes-kinds, nodes-le-size}
 use Rattle.format.specs.Bytes.{address}
 use Rattle.format.specs.Walk.{fine, noCounts, nodeRun}
@@ -88,9 +88,7 @@ module _ (q : Request) where
     filled = plan-filled whole (depthOf q) (q .n) (plan .thick some)
 
     within : Within most whole (depthOf q) tree
-    unfolding planned planDepth
-    within =
-        plan-within whole most (depthOf q) (q .n) (depth-levels (q .n) (q .rs) (q .ns) (q .ow) (positive plan) (plan .enough)) (plan .thick some) (plan .enough)
+    within = planned-within (q .n) (q .rs) (q .ns) (q .ow) plan
 
     pub fits : Everywhere (Fit (formOf q)) (depthOf q) tree
     fits = everywhere-both (Held plan) (λ u t. 1 ≤ count u t) (Fit (formOf q)) (fit plan) (depthOf q) tree within filled
@@ -104,8 +102,7 @@ module _ (q : Request) where
     root-held = le-trans (everywhere-root (Held plan) (depthOf q) tree within .0) (node-le-leaf (q .ns) (q .rs) (q .ow) (positive plan) (depthOf q))
 
     pub deep : depthOf q ≤ 32
-    unfolding planDepth
-    deep = depth-le (q .ns) (q .rs) (q .ow) (q .n)
+    deep = depth-le (q .n) (q .rs) (q .ns) (q .ow)
 
     room : Room (formOf q) (q .start) recs 0 (size (depthOf q) tree)
     unfolding formOf

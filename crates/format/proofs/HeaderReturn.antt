@@ -3,7 +3,7 @@ use mathlib.Core.Path.{_≡_, _∙_}
 use mathlib.Core.Bool.{true}
 use mathlib.Core.Logic.{⊎-elim}
 use mathlib.Core.List.{List, [], _∷_, _++_}
-use Prim.Native.Nat.{ℕ, _+_, _-_, _^_, _≤_, _<_, zero-le}
+use Prim.Native.Nat.{ℕ, _+_, _-_, _^_, _≤_, _<_}
 use native.Mathlib.Nat.{div-le-self, eq-zero-or-pos}
 use native.Mathlib.Omega.{arith}
 use lib.Dec.{lit<}
@@ -14,11 +14,11 @@ use Rattle.checksum.proofs.Laws.{lookup3-lt}
 use Rattle.fields.specs.Numbers.{le, unle, part, num, fieldSize}
 use Rattle.fields.proofs.Numbers.{le-length}
 use Rattle.refusal.specs.Answer.{Answer, accepted}
-use Rattle.node_info.specs.Capacity.{leafCapacity, depthFrom, depthFor}
-use Rattle.node_info.proofs.Depth.{from-enough, depth-le}
+use Rattle.node_info.specs.Capacity.{leafCapacity}
 use Rattle.plan.specs.Tree.{count}
-use Rattle.plan.specs.Planned.{planTree, planDepth, planned}
+use Rattle.plan.specs.Planned.{planTree, planned}
 use Rattle.plan.proofs.Checks.{Plannable, accepted-plannable}
+use Rattle.plan.proofs.Depths.{depth-le, depth-none}
 use Rattle.format.specs.Bytes.{headerSignature, Form, summed, headerBytes}
 use Rattle.format.specs.Reading.{checksumTest, headerFigures, headerAt, parsed}
 use Rattle.format.specs.Writing.{Request, formOf, depthOf, rootOf, rootRecordsOf, headerOf}
@@ -111,14 +111,11 @@ module _ (q : Request) (recs : List ℕ) (a : Accepts q recs) where
 
   -- The depth and the root's records fit their two bytes; where there is no record, the root is an empty leaf.
   deep : depthOf q < 256 ^ 2
-  unfolding planDepth
-  deep = omega (arith, depth-le (q .ns) (q .rs) (q .ow) (q .n))
+  deep = omega (arith, depth-le (q .n) (q .rs) (q .ns) (q .ow))
 
   root-empty : q .n ≡ 0 → rootRecordsOf q ≡ 0
-  unfolding rootRecordsOf planned planDepth depthFor planTree count
-  root-empty z =
-      let e : depthFrom (q .ns) (q .rs) (q .ow) (q .n) 32 0 ≡ 0 = from-enough (q .ns) (q .rs) (q .ow) (q .n) 32 0 (rw z zero-le) in
-      rw e z
+  unfolding rootRecordsOf planned planTree count
+  root-empty z = rw (depth-none (q .n) (q .rs) (q .ns) (q .ow) z) z
 
   root-small : rootRecordsOf q < 256 ^ 2
   unfolding leafCapacity

@@ -1,23 +1,21 @@
 -- A look at a leaf: what it hands out of a leaf that passed and of one that was refused, and that this is what collecting puts out.
-use mathlib.Core.Path.{_≡_, refl, sym, _∙_}
+use mathlib.Core.Path.{_≡_, refl, _∙_}
 use mathlib.Core.Bool.{Bool, true, false}
-use mathlib.Core.List.{List, [], _∷_}
+use mathlib.Core.List.{List, []}
 use Prim.Native.Nat.{ℕ, zero, suc, _+_, _*_, _≤_, _<_}
 use native.Mathlib.Nat.{zero-add, mul-le-mul-right}
 use native.Mathlib.Omega.{arith}
 use lib.Dec.{ltb}
 use lib.ListN.{length}
 use borrow.Author.Needs.{zero≤}
-use borrow.Author.Tests.{ltb-true, le-leb, lt-leb, lt-ltb, le-ltb}
+use borrow.Author.Tests.{ltb-true, lt-ltb, le-ltb}
 use Rattle.fields.specs.Numbers.{pick, part}
-use Rattle.fields.specs.Places.{stored}
-use Rattle.fields.proofs.Lists.{length-part, part-part, part-past, stored-is}
-use Rattle.refusal.specs.Answer.{Answer, accepted, refused}
+use Rattle.fields.proofs.Lists.{length-part, part-part, part-past}
+use Rattle.refusal.specs.Answer.{accepted, refused}
 use Rattle.format.specs.Bytes.{leafSignature}
 use Rattle.format.specs.Walk.{Counts, Run, fine, stopped, andThen, oneLeaf, Source, putBytes, putRecord, putRecords, leafRun}
-use Rattle.format.specs.Writing.{over}
 use Rattle.format.specs.Reading.{same, leafTest, collectTests}
-use Rattle.format.specs.Look.{lookTest, lookBytes, recordOf, putEach, recordAnswer, recordExit}
+use Rattle.format.specs.Look.{lookTest, lookBytes, recordOf, putEach}
 use Rattle.format.proofs.Passing.{passed, there}
 
 -- Record i below the count, and from the count on.
@@ -118,42 +116,3 @@ module _ (s : Source) (a n : ℕ) where
       → leafRun s (collectTests s) a n c o ≡ stopped number values c o
   unfolding leafRun collectTests
   look-stopped number values h e c o = rw (← look-leaf (s .file) (s .rs) a n h, e)
-
-no-length : (l : List ℕ) → length l ≡ 0 → l ≡ []
-no-length [] e = refl
-no-length (x ∷ l) e = absurd (omega arith)
-
--- Record i copied to an output.
-module _ (file : List ℕ) (rs a n i : ℕ) (out : List ℕ) where
-  abbrev found : List ℕ
-  found = recordOf (lookBytes file rs a n) rs n i
-
-  -- A record that has bytes is of a leaf that passed.
-  pub some-passed : 0 < length found → (x : Answer) → x ≡ lookTest file rs a n → (figures : List ℕ) × (lookTest file rs a n ≡ accepted figures)
-  some-passed h (accepted figures) e = (figures, sym e)
-  some-passed h (refused number values) e =
-      let z : length found ≡ 0 = rw (look-refused file rs a n number values (sym e) i) in absurd (omega arith)
-
-  pub record-none : (x : Answer) → x ≡ lookTest file rs a n → x ≡ accepted [] → length found ≡ 0
-      → (recordAnswer file rs a n i out ≡ accepted (0 ∷ [])) × (recordExit file rs a n i out ≡ out)
-  unfolding recordAnswer recordExit over
-  record-none x e p z =
-      let f = no-length found z in
-      (rw (← e, p, f, le-leb 0 (length out) zero≤), rw (← e, p, f, le-leb 0 (length out) zero≤))
-
-  pub record-refused : (number : ℕ) (values : List ℕ) → refused number values ≡ lookTest file rs a n
-      → (recordAnswer file rs a n i out ≡ refused number values) × (recordExit file rs a n i out ≡ out)
-  unfolding recordAnswer recordExit
-  record-refused number values e = (rw (← e), rw (← e))
-
-  pub record-short : 0 < length found → length out < length found
-      → (recordAnswer file rs a n i out ≡ refused 15 (length out ∷ [])) × (recordExit file rs a n i out ≡ out)
-  unfolding recordAnswer recordExit
-  record-short h l =
-      let p = some-passed h (lookTest file rs a n) refl .1 in (rw (p, lt-leb _ _ l), rw (p, lt-leb _ _ l))
-
-  pub record-copied : 0 < length found → length found ≤ length out
-      → (recordAnswer file rs a n i out ≡ accepted (length found ∷ [])) × (recordExit file rs a n i out ≡ stored out 0 found)
-  unfolding recordAnswer recordExit over
-  record-copied h l =
-      let p = some-passed h (lookTest file rs a n) refl .1 in (rw (p, le-leb _ _ l), rw (p, le-leb _ _ l, stored-is, zero-add))

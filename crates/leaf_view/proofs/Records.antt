@@ -1,21 +1,25 @@
--- The tests of a look, and the records that are handed out.
-use mathlib.Core.Path.{_≡_}
-use mathlib.Core.List.{List, []}
+-- The tests of a look, the records that are handed out, and the record that is copied.
+use mathlib.Core.Path.{_≡_, sym, ap, _∙_}
+use mathlib.Core.List.{List, [], _∷_}
 use Prim.Native.Nat.{ℕ, _+_, _*_, _^_, _≤_, _<_}
+use native.Mathlib.Nat.{zero-add}
 use native.Mathlib.Omega.{arith}
 use lib.ListN.{length}
 use mir.Syntax.{w64}
 use mir.Val.{Fits}
-use borrow.Author.Tests.{lt-ltb, le-ltb}
+use borrow.Author.Tests.{lt-ltb, le-ltb, le-leb, lt-leb}
 use Rattle.fields.specs.Numbers.{held, part}
+use Rattle.fields.specs.Places.{stored, put}
 use Rattle.fields.proofs.Copying.{part-held}
+use Rattle.fields.proofs.Lists.{put-fits, stored-is}
 use Rattle.refusal.specs.declared.Refusal.{Refusal}
 use Rattle.refusal.specs.declared.Verdict.{Verdict}
 use Rattle.refusal.specs.declared.Verdict.the-variants.{Accepted, Refused}
-use Rattle.refusal.specs.Answer.{refused, verdictOf}
+use Rattle.refusal.specs.Answer.{Answer, accepted, refused, refusalOf, verdictOf}
 use Rattle.refusal.proofs.Answers.{refused-is}
 use Rattle.format.specs.Reading.{leafTest}
-use Rattle.format.specs.Look.{lookTest, bytesIf, lookBytes, recordOf}
+use Rattle.format.specs.Look.{lookTest, bytesIf, lookBytes, recordOf, recordAnswer, recordExit}
+use Rattle.format.specs.Writing.{over}
 use Rattle.checks.proofs.Nodes.{product-fits}
 
 -- `check_view`, `records_of` and `record_of`.
@@ -52,3 +56,38 @@ pub look-bytes : (file : List ℕ) (k a n : ℕ) (v : Verdict) (x : List ℕ) �
     → x ≡ bytesIf (verdictOf v) file k a n → x ≡ lookBytes file k a n
 unfolding lookBytes
 look-bytes file k a n v x t e = rw (← t) e
+
+-- `copy_leaf_record`, by its ways out: the look is refused, the record has no room, or it is copied.
+stored-front : (out r : List ℕ) → stored out 0 r ≡ over r out
+unfolding over
+stored-front out r = rw (stored-is, zero-add)
+
+module _ (file : List ℕ) (k a n i : ℕ) (out : List ℕ) (v : Verdict) (tested : verdictOf v ≡ lookTest file k a n) where
+  -- The answer and the output at exit are those of the definition.
+  abbrev Ends : Answer → List ℕ → Type 0
+  Ends x o = (x ≡ recordAnswer file k a n i out) × (o ≡ recordExit file k a n i out)
+
+  pub copy-refused : (q : Refusal) → v ≡ Refused q → Ends (refusalOf q) out
+  unfolding recordAnswer recordExit
+  copy-refused q e =
+      let s = refused-is q in
+      let t : lookTest file k a n ≡ refused (s .0) (s .1) = sym tested ∙ ap verdictOf e ∙ s .2 in (rw t (s .2), rw t)
+
+  module _ (e : v ≡ Accepted) (records r : List ℕ) (has : records ≡ bytesIf (verdictOf v) file k a n) (is : r ≡ recordOf records k n i) where
+    accepts : lookTest file k a n ≡ accepted []
+    accepts = sym tested ∙ ap verdictOf e
+
+    found : r ≡ recordOf (lookBytes file k a n) k n i
+    unfolding lookBytes
+    found = rw (← tested, ← has) is
+
+    pub copy-short : length out < length r → Ends (refused 15 (length out ∷ [])) out
+    unfolding recordAnswer recordExit
+    copy-short h = (rw (accepts, ← found, lt-leb (length r) (length out) h), rw (accepts, ← found, lt-leb (length r) (length out) h))
+
+    pub copy-done : length r ≤ length out → (o : List ℕ) → o ≡ put out 0 r → Ends (accepted (length r ∷ [])) o
+    unfolding recordAnswer recordExit
+    copy-done h o p = (
+      rw (accepts, ← found, le-leb (length r) (length out) h),
+      rw (accepts, ← found, le-leb (length r) (length out) h) (p ∙ put-fits out 0 r (rw zero-add h) ∙ stored-front out r),
+    )

@@ -1,9 +1,10 @@
-// A borrowed look at a leaf's records. A function that takes, makes or holds a view is a walk proved by hand; a caller
-// that loops over a leaf's records goes by `check_view`, `records_of` and `record_of` instead.
+// A borrowed look at a leaf's records, and one record copied out. A function that takes, makes or holds a view is a walk proved by hand;
+// the functions under it take slices and numbers.
 
 ghost use mathlib.Core.Path.{_≡_};
-ghost use Rattle.format.specs.Look.{lookTest, bytesIf, lookBytes, recordOf};
+ghost use Rattle.format.specs.Look.{lookTest, bytesIf, lookBytes, recordOf, recordAnswer, recordExit};
 ghost use Rattle.refusal.specs.Answer.{verdictOf};
+ghost use Rattle.leaf_view.specs.Answers.{recordAnswerOf};
 use refusal::Refusal;
 use refusal::Verdict;
 
@@ -21,6 +22,12 @@ pub struct LeafAnswer<'a> {
     pub view: LeafView<'a>,
 }
 
+// A record that was copied, by its length, or why none was.
+pub enum RecordAnswer {
+    Copied(u64),
+    Refused(Refusal),
+}
+
 // The tests of a look: a record has bytes, and the leaf's own.
 pub fn check_view(file: &[u8], address: u64, count: u16, record_size: u16) -> Verdict
     ensures { λ r. ⌜ verdictOf r ≡ lookTest (now (file .entry)) «record_size» address count ⌝ }
@@ -32,7 +39,7 @@ pub fn check_view(file: &[u8], address: u64, count: u16, record_size: u16) -> Ve
 }
 
 // The records of a leaf with this verdict: none where it is refused.
-pub fn records_of<'a>(
+fn records_of<'a>(
     verdict: Verdict,
     file: &'a [u8],
     address: u64,
@@ -49,7 +56,7 @@ pub fn records_of<'a>(
 }
 
 // Record i of `count` records that stand end to end; empty where i is not below the count.
-pub fn record_of<'a>(records: &'a [u8], record_size: u16, count: u16, i: u64) -> &'a [u8]
+fn record_of<'a>(records: &'a [u8], record_size: u16, count: u16, i: u64) -> &'a [u8]
     ensures { λ r. ⌜ now r ≡ recordOf (now (records .entry)) «record_size» count i ⌝ }
 {
     if count as u64 <= i {
@@ -91,17 +98,27 @@ impl<'a> LeafView<'a> {
     }
 }
 
-// Record i of the leaf at `address`: empty where the leaf is refused, or i is not below the count.
-pub fn leaf_record<'a>(
-    file: &'a [u8],
+// Record `index` of the leaf at `address`, copied to the front of the output: its length, 0 where the index is not below the count.
+pub fn copy_leaf_record(
+    file: &[u8],
     address: u64,
     count: u16,
     record_size: u16,
-    i: u64,
-) -> &'a [u8]
-    ensures { λ r. ⌜ now r ≡ recordOf (lookBytes (now (file .entry)) «record_size» address count) «record_size» count i ⌝ }
+    index: u64,
+    output: &mut [u8],
+) -> RecordAnswer
+    ensures answered { λ r. ⌜ recordAnswerOf r ≡ recordAnswer (now (file .entry)) «record_size» address count index (now (output .entry)) ⌝ }
+    ensures outputLeft { λ r. ⌜ now (output .exit) ≡ recordExit (now (file .entry)) «record_size» address count index (now (output .entry)) ⌝ }
 {
-    LeafAnswer::look(file, address, count, record_size)
-        .view
-        .record(i)
+    let verdict = check_view(file, address, count, record_size);
+    if let Verdict::Refused(cause) = verdict {
+        return RecordAnswer::Refused(cause);
+    }
+    let records = records_of(verdict, file, address, count, record_size);
+    let record = record_of(records, record_size, count, index);
+    if output.len() < record.len() {
+        return RecordAnswer::Refused(Refusal::OutputTooShort(output.len() as u64));
+    }
+    fields::put_bytes(output, 0, record);
+    RecordAnswer::Copied(record.len() as u64)
 }

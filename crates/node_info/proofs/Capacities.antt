@@ -43,6 +43,10 @@ module _ (ns rs : ℕ) where
   unfolding countWidth
   count-width-le = width-le _
 
+  pub internal-le : (p : ℕ) → internalCapacity ns rs p ≤ ns
+  unfolding internalCapacity
+  internal-le p = le-trans (div-le-self (ns - 10 - p) (rs + p)) (omega arith)
+
 module _ (ns rs ow : ℕ) where
   -- The definitions, level by level.
   pub node-zero : nodeCapacity ns rs ow 0 ≡ leafCapacity ns rs
@@ -57,7 +61,7 @@ module _ (ns rs ow : ℕ) where
   unfolding totalWidth
   total-zero = refl
 
-  pub node-suc : (u : ℕ) → nodeCapacity ns rs ow (suc u) ≡ internalCapacity ns rs ow (totalWidth ns rs ow u)
+  pub node-suc : (u : ℕ) → nodeCapacity ns rs ow (suc u) ≡ internalCapacity ns rs (pointerSize ow (countWidth ns rs) (totalWidth ns rs ow u))
   unfolding nodeCapacity
   node-suc u = refl
 
@@ -71,13 +75,9 @@ module _ (ns rs ow : ℕ) where
   total-suc u = refl
 
   -- M is at most the node size, C below 2^64, T at most 8.
-  pub internal-le : (t : ℕ) → internalCapacity ns rs ow t ≤ ns
-  unfolding internalCapacity
-  internal-le t = le-trans (div-le-self (ns - 10 - pointerSize ns rs ow t) (rs + pointerSize ns rs ow t)) (omega arith)
-
   pub node-le : (u : ℕ) → nodeCapacity ns rs ow u ≤ ns
   node-le zero = rw node-zero (leaf-le ns rs)
-  node-le (suc u) = rw node-suc (internal-le (totalWidth ns rs ow u))
+  node-le (suc u) = rw node-suc (internal-le ns rs _)
 
   held-subtree : (u : ℕ) → subtreeCapacity ns rs ow (suc u) < 2 ^ 64
   held-subtree u = rw subtree-suc (omega arith)
@@ -118,10 +118,10 @@ module _ (ns rs ow : ℕ) where
   leaf-bytes n p h = omega (arith, mul-le-mul-right rs h, div-mul-le-self (ns - 10) rs)
 
   pub internal-bytes : (u n : ℕ) → 0 < nodeCapacity ns rs ow (suc u) → n ≤ nodeCapacity ns rs ow (suc u)
-      → 10 + n * rs + (n + 1) * pointerSize ns rs ow (totalWidth ns rs ow u) ≤ ns
+      → 10 + n * rs + (n + 1) * pointerSize ow (countWidth ns rs) (totalWidth ns rs ow u) ≤ ns
   unfolding nodeCapacity internalCapacity
   internal-bytes u n p h =
-      let t = pointerSize ns rs ow (totalWidth ns rs ow u) in
+      let t = pointerSize ow (countWidth ns rs) (totalWidth ns rs ow u) in
       let room : n * (rs + t) ≤ ns - 10 - t =
       le-trans (mul-le-mul-right (rs + t) h) (div-mul-le-self (ns - 10 - t) (rs + t)) in
       rw (add-mul, one-mul) (omega (arith, pos-of-div-pos (rs + t) p, rw mul-add at room))

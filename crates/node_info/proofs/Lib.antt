@@ -1,5 +1,4 @@
--- The laws of the crate's definitions: Columns, Capacities and Depth serve the crates above too, Growing the functions' own proofs.
+-- The laws of the crate's definitions, which the crates above cite too.
 pub mod Columns
 pub mod Capacities
-pub mod Depth
-mod Growing
+pub mod Growing

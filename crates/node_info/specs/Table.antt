@@ -3,10 +3,11 @@ use Prim.Native.Nat.{ℕ, zero, suc, _+_}
 use mathlib.Core.List.{List, [], _∷_, _++_}
 use lib.Dec.{leb}
 use lib.ListN.{replicate}
-use Rattle.fields.specs.Numbers.{pick}
+use Rattle.fields.specs.Numbers.{pick, width}
 use Rattle.refusal.specs.Answer.{Answer, accepted, refused, refusalOf}
-use Rattle.node_info.specs.Capacity.{countWidth, totalWidth, nodeCapacity, subtreeCapacity}
+use Rattle.node_info.specs.Capacity.{countWidth, subtree, internalCapacity, totalWidth, nodeCapacity, subtreeCapacity}
 use Rattle.node_info.specs.declared.NodeInfo.{NodeInfo}
+use Rattle.node_info.specs.declared.Level.{Level}
 use Rattle.refusal.specs.declared.Verdict.{Verdict}
 use Rattle.refusal.specs.declared.Verdict.the-variants.{Accepted, Refused}
 
@@ -28,6 +29,13 @@ infoAt ns rs ow d =
       «max_nrec» = column (nodeCapacity ns rs ow) d;
       «cum_max_nrec» = column (subtreeCapacity ns rs ow) d;
     }
+
+-- The entries M, C and T of a level whose child pointers have p bytes and whose children's subtrees hold c records.
+unfoldable pub levelAbove : ℕ → ℕ → ℕ → ℕ → Level
+levelAbove ns rs p c =
+    let m = internalCapacity ns rs p in
+    let a = subtree m c in
+    record { most = m; all = a; total = width a }
 
 -- The table where it is refused: all zeros.
 unfoldable pub noInfo : NodeInfo

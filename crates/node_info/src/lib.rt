@@ -2,9 +2,9 @@
 
 ghost use mathlib.Core.Path.{_≡_};
 ghost use lib.Dec.{leb};
-ghost use Rattle.fields.specs.Numbers.{pick, width};
-ghost use Rattle.node_info.specs.Capacity.{leafCapacity, countWidth, subtree, internalCapacity, subtreeCapacity, depthFor};
-ghost use Rattle.node_info.specs.Table.{infoAt, noInfo, tabled, tableAnswer};
+ghost use Rattle.fields.specs.Numbers.{pick};
+ghost use Rattle.node_info.specs.Capacity.{leafCapacity, pointerSize, internalCapacity};
+ghost use Rattle.node_info.specs.Table.{infoAt, levelAbove, noInfo, tabled, tableAnswer};
 use refusal::Refusal;
 use refusal::Verdict;
 
@@ -26,11 +26,11 @@ pub struct NodeInfoAnswer {
     pub info: NodeInfo,
 }
 
-// A table deep enough for a record count, its depth, and whether it is enough.
-pub struct Deepened {
-    pub info: NodeInfo,
-    pub depth: u16,
-    pub enough: bool,
+// A level's entries: M, C and T.
+pub struct Level {
+    pub most: u64,
+    pub all: u64,
+    pub total: u8,
 }
 
 // Records in a full leaf.
@@ -46,51 +46,40 @@ fn max_records_leaf(node_size: u32, record_size: u16) -> u64
     (node_size - NodeInfo::OVERHEAD) as u64 / (record_size as u64)
 }
 
-// Records in a full internal node whose pointers have counts of `wide` bytes and totals of `total` bytes.
-fn max_records_internal(
-    node_size: u32,
-    record_size: u16,
-    offset_size: u8,
-    wide: u8,
-    total: u8,
-) -> u64
-    requires { ⌜ wide ≡ countWidth «node_size» «record_size» ⌝ }
-    ensures { λ r. ⌜ r ≡ internalCapacity «node_size» «record_size» «offset_size» total ⌝ }
+// Records in a full internal node whose child pointers have `pointer` bytes.
+fn max_records_internal(node_size: u32, record_size: u16, pointer: u16) -> u64
+    ensures { λ r. ⌜ r ≡ internalCapacity «node_size» «record_size» pointer ⌝ }
 {
-    let pointer = (offset_size as u64) + (wide as u64) + (total as u64);
-    let taken = NodeInfo::OVERHEAD as u64 + pointer;
+    let taken = NodeInfo::OVERHEAD as u64 + (pointer as u64);
     let room = node_size as u64;
     if room <= taken {
         return 0;
     }
-    (room - taken) / ((record_size as u64) + pointer)
+    let each = (record_size as u64) + (pointer as u64);
+    if each == 0 {
+        return 0;
+    }
+    (room - taken) / each
 }
 
-// A level's entries: T, M and C.
-struct Level {
-    total: u8,
-    most: u64,
-    all: u64,
-}
-
-// The entries of the level above one whose subtrees hold `under` records and have totals of `total` bytes.
-fn level_above(
+// The entries of the level above one whose subtrees hold `under` records, where a child pointer has these three sizes.
+pub fn level_above(
     node_size: u32,
     record_size: u16,
     offset_size: u8,
-    wide: u8,
-    total: u8,
+    count_size: u8,
+    total_size: u8,
     under: u64,
 ) -> Level
-    requires { ⌜ wide ≡ countWidth «node_size» «record_size» ⌝ }
-    ensures { λ r. ⌜ (r .most ≡ internalCapacity «node_size» «record_size» «offset_size» total) × (r .all ≡ subtree (r .most) under) × (r .total ≡ width (r .all)) ⌝ }
+    ensures { λ r. ⌜ r ≡ levelAbove «node_size» «record_size» (pointerSize «offset_size» «count_size» «total_size») under ⌝ }
 {
-    let most = max_records_internal(node_size, record_size, offset_size, wide, total);
+    let pointer = (offset_size as u16) + (count_size as u16) + (total_size as u16);
+    let most = max_records_internal(node_size, record_size, pointer);
     let all = counts::saturating_add(counts::saturating_mul(most + 1, under), most);
     Level {
-        total: counts::bytes_for_max_records(all),
         most,
         all,
+        total: counts::bytes_for_max_records(all),
     }
 }
 
@@ -156,38 +145,6 @@ impl NodeInfo {
         NodeInfoAnswer {
             verdict: Verdict::Accepted,
             info,
-        }
-    }
-
-    // The table deepened until it is enough for `records`, or until a level holds none or the highest is reached.
-    pub fn for_record_count(
-        node_size: u32,
-        record_size: u16,
-        offset_size: u8,
-        records: u64,
-    ) -> Deepened
-        ensures { λ r. ⌜ (r .depth ≡ depthFor «node_size» «record_size» «offset_size» records) × (r .info ≡ infoAt «node_size» «record_size» «offset_size» (r .depth)) × (r .enough ≡ leb records (subtreeCapacity «node_size» «record_size» «offset_size» (r .depth))) ⌝ }
-    {
-        let mut info = NodeInfo::leaf_only(node_size, record_size);
-        let wide = info.max_nrec_size;
-        let mut u = 0;
-        while u < NodeInfo::LEVEL_LIMIT as usize
-            && info.cum_max_nrec[u] < records
-            && 0 < info.max_nrec[u]
-        {
-            let total = info.cum_max_nrec_size[u];
-            let under = info.cum_max_nrec[u];
-            let level = level_above(node_size, record_size, offset_size, wide, total, under);
-            u += 1;
-            info.cum_max_nrec_size[u] = level.total;
-            info.max_nrec[u] = level.most;
-            info.cum_max_nrec[u] = level.all;
-        }
-        let enough = records <= info.cum_max_nrec[u];
-        Deepened {
-            info,
-            depth: u as u16,
-            enough,
         }
     }
 }

@@ -1,67 +1,61 @@
 -- Laws of the tree of an accepted plan: its depth is the least that is enough, its counts add up, and every node is within bounds.
-use mathlib.Core.Path.{_≡_}
+use mathlib.Core.Path.{_≡_, refl}
+use mathlib.Core.Bool.{true}
 use mathlib.Core.Logic.{⊎-elim}
 use mathlib.Core.List.{[], _∷_}
 use Prim.Native.Nat.{ℕ, _+_, _-_, _*_, _^_, _≤_, _<_, zero-le}
 use native.Mathlib.Nat.{eq-zero-or-pos, mul-le-mul, one-mul}
 use native.Mathlib.Omega.{arith}
 use lib.Dec.{ltb}
-use Rattle.node_info.specs.Capacity.{subtreeCapacity, nodeCapacity, depthFor}
-use Rattle.node_info.proofs.Depth.{from-enough, depth-small, depth-le-23}
+use Rattle.node_info.specs.Capacity.{subtreeCapacity, nodeCapacity}
 use Rattle.plan.specs.Tree.{Tree, count, size, below, nodes, leaves}
+use Rattle.plan.specs.Steps.{Passed}
 use Rattle.plan.specs.Planned.{planTree, thin, planDepth, planned, planFigures}
 use Rattle.plan.proofs.Checks.{Plannable}
-use Rattle.plan.proofs.Depths.{depth-levels}
+use Rattle.plan.proofs.Depths.{holding, depth-small, depth-none, depth-holds, depth-holds-all, depth-levels}
 use Rattle.plan.proofs.Plans.{plan-size, plan-filled, plan-nodes-le, plan-within}
 use Rattle.plan.proofs.Thin.{Levels, thin-root}
 use Rattle.plan.proofs.Trees.{Within, Filled}
 
 -- Refusal 11 is decided at the root.
-pub thin-plan : (n rs ns ow : ℕ) → 0 < rs → n ≤ subtreeCapacity ns rs ow (planDepth n rs ns ow)
+pub thin-plan : (n rs ns ow : ℕ) (pass : Passed n rs ns ow) → holding n rs ns ow ≡ true
     → thin (subtreeCapacity ns rs ow) (planDepth n rs ns ow) n ≡ ltb n (2 ^ (planDepth n rs ns ow + 1) - 1)
-unfolding planDepth
-thin-plan n rs ns ow some enough =
-    thin-root (subtreeCapacity ns rs ow) (nodeCapacity ns rs ow) (depthFor ns rs ow n) n (depth-levels n rs ns ow some enough) enough
+thin-plan n rs ns ow pass test =
+    thin-root (subtreeCapacity ns rs ow) (nodeCapacity ns rs ow) (planDepth n rs ns ow) n
+    (depth-levels n rs ns ow (pass .some) (depth-holds n rs ns ow pass test)) (depth-holds-all n rs ns ow pass test)
 
 -- No records: one empty leaf.
 module _ (rs ns ow : ℕ) where
-  depth-none : depthFor ns rs ow 0 ≡ 0
-  unfolding depthFor
-  depth-none = from-enough ns rs ow 0 32 0 zero-le
-
   pub planned-none : _≡_ {A = (d : ℕ) × Tree d} (planDepth 0 rs ns ow, planned 0 rs ns ow) (0, 0)
-  unfolding planned planDepth planTree
-  planned-none = rw depth-none
+  unfolding planned planTree
+  planned-none = rw (depth-none 0 rs ns ow refl)
 
   pub figures-none : planFigures 0 rs ns ow ≡ 0 ∷ 1 ∷ 1 ∷ ns ∷ []
-  unfolding planFigures planned planDepth planTree nodes below leaves
-  figures-none = rw (depth-none, one-mul)
+  unfolding planFigures planned planTree nodes below leaves
+  figures-none = rw (depth-none 0 rs ns ow refl, one-mul)
 
   none-within : Within (nodeCapacity ns rs ow) (subtreeCapacity ns rs ow) (planDepth 0 rs ns ow) (planned 0 rs ns ow)
-  unfolding planned planDepth planTree count size
-  none-within = rw depth-none (zero-le, zero-le)
+  unfolding planned planTree count size
+  none-within = rw (depth-none 0 rs ns ow refl) (zero-le, zero-le)
 
   none-size : size (planDepth 0 rs ns ow) (planned 0 rs ns ow) ≡ 0
-  unfolding planned planDepth planTree size
-  none-size = rw depth-none
+  unfolding planned planTree size
+  none-size = rw (depth-none 0 rs ns ow refl)
 
   none-nodes : nodes (planDepth 0 rs ns ow) (planned 0 rs ns ow) ≡ 1
-  unfolding planned planDepth planTree nodes below
-  none-nodes = rw depth-none
+  unfolding planned planTree nodes below
+  none-nodes = rw (depth-none 0 rs ns ow refl)
 
 module _ (n rs ns ow : ℕ) (p : Plannable n rs ns ow) where
   -- The depth is the least level that is enough, and 23 at most.
   pub planned-least : (u : ℕ) → u < planDepth n rs ns ow → subtreeCapacity ns rs ow u < n
-  unfolding planDepth
-  planned-least = depth-small ns rs ow n
+  planned-least = depth-small n rs ns ow
 
   pub planned-deep : planDepth n rs ns ow ≤ 23
-  unfolding planDepth
-  planned-deep = depth-le-23 ns rs ow n (p .pass .few)
+  planned-deep = p .deep
 
   pub planned-levels : Levels (subtreeCapacity ns rs ow) (nodeCapacity ns rs ow) (planDepth n rs ns ow)
-  unfolding planDepth
-  planned-levels = depth-levels n rs ns ow (p .pass .some) (p .enough)
+  planned-levels = depth-levels n rs ns ow (p .pass .some) (p .holds)
 
   -- The counts add up to n.
   pub planned-size : size (planDepth n rs ns ow) (planned n rs ns ow) ≡ n

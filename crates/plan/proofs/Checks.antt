@@ -1,16 +1,17 @@
 -- The planner's refusals one by one, in the forms in which the code meets them, and what an accepted plan has passed.
 use mathlib.Core.Path.{_≡_, refl, sym}
-use mathlib.Core.Bool.{Bool, true, false, not, _||_, _&&_, true≢false, or-true}
+use mathlib.Core.Bool.{Bool, true, false, not, _||_, _&&_, true≢false}
 use mathlib.Core.List.{List, [], _∷_}
-use Prim.Native.Nat.{ℕ, zero, suc, _≤_, _<_}
+use Prim.Native.Nat.{ℕ, suc, _≤_, _<_}
 use native.Mathlib.Omega.{arith}
 use lib.Dec.{leb, ltb, eqb}
 use borrow.Author.Tests.{leb-true, ltb-true, not-true, lt-ltb, le-ltb, le-leb, lt-leb, ne-eqb}
 use Rattle.fields.specs.Numbers.{fieldSize}
 use Rattle.refusal.specs.Answer.{Answer, accepted, refused, orElse}
-use Rattle.node_info.specs.Capacity.{subtreeCapacity, depthFor}
+use Rattle.node_info.specs.Capacity.{subtreeCapacity, nodeCapacity}
 use Rattle.plan.specs.Steps.{Passed}
-use Rattle.plan.specs.Planned.{thin, planDepth, planFigures, planAnswer}
+use Rattle.plan.specs.Planned.{thin, planDepth, emptyLevel, planFigures, planAnswer}
+use Rattle.plan.proofs.Depths.{holding, depth-holds, depth-le-23, depth-holds-all}
 
 module _ (n rs ns ow : ℕ) where
   -- The refusals, each after the tests before it have passed.
@@ -37,32 +38,32 @@ module _ (n rs ns ow : ℕ) where
       checks-9 some h =
           rw (offset, le-leb 10 ns low, le-leb ns 65536 high, lt-ltb 0 rs (omega arith), lt-leb n 16777215 h)
 
-  module _ (pass : Passed n rs ns ow) (d : ℕ) (deep : d ≡ depthFor ns rs ow n) where
+  module _ (pass : Passed n rs ns ow) where
     -- What is left of the tests.
-    abbrev from-10 : Answer
-    from-10 =
-        orElse (leb n (subtreeCapacity ns rs ow d)) (refused 10 (d ∷ []))
-        (orElse (eqb n 0 || not (thin (subtreeCapacity ns rs ow) d n)) (refused 11 []) (accepted (planFigures n rs ns ow)))
-
-    passed-9 : planAnswer n rs ns ow ≡ from-10
-    unfolding planAnswer planDepth
+    passed-9 : planAnswer n rs ns ow
+        ≡ orElse (holding n rs ns ow) (refused 10 (emptyLevel n rs ns ow ∷ []))
+        (orElse (eqb n 0 || not (thin (subtreeCapacity ns rs ow) (planDepth n rs ns ow) n)) (refused 11 []) (accepted (planFigures n rs ns ow)))
+    unfolding planAnswer
     passed-9 =
-        rw (pass .offset, le-leb 10 ns (pass .low), le-leb ns 65536 (pass .high), lt-ltb 0 rs (pass .some), le-leb n 16777215 (pass .few), ← deep)
+        rw (pass .offset, le-leb 10 ns (pass .low), le-leb ns 65536 (pass .high), lt-ltb 0 rs (pass .some), le-leb n 16777215 (pass .few))
 
-    pub checks-10 : leb n (subtreeCapacity ns rs ow d) ≡ false → planAnswer n rs ns ow ≡ refused 10 (d ∷ [])
+    pub checks-10 : holding n rs ns ow ≡ false → planAnswer n rs ns ow ≡ refused 10 (emptyLevel n rs ns ow ∷ [])
     checks-10 e = rw (passed-9, e)
 
-    module _ (enough : leb n (subtreeCapacity ns rs ow d) ≡ true) where
-      pub checks-11 : (eqb n 0 || not (thin (subtreeCapacity ns rs ow) d n)) ≡ false → planAnswer n rs ns ow ≡ refused 11 []
-      checks-11 e = rw (passed-9, enough, e)
+    module _ (test : holding n rs ns ow ≡ true) where
+      pub checks-11 : (eqb n 0 || not (thin (subtreeCapacity ns rs ow) (planDepth n rs ns ow) n)) ≡ false
+          → planAnswer n rs ns ow ≡ refused 11 []
+      checks-11 e = rw (passed-9, test, e)
 
-      pub checks-passed : (eqb n 0 || not (thin (subtreeCapacity ns rs ow) d n)) ≡ true
+      pub checks-passed : (eqb n 0 || not (thin (subtreeCapacity ns rs ow) (planDepth n rs ns ow) n)) ≡ true
           → planAnswer n rs ns ow ≡ accepted (planFigures n rs ns ow)
-      checks-passed e = rw (passed-9, enough, e)
+      checks-passed e = rw (passed-9, test, e)
 
 -- What an accepted plan has passed.
 pub record Plannable (n rs ns ow : ℕ) : Type 0 where
   pub pass : Passed n rs ns ow
+  pub holds : (u : ℕ) → u < planDepth n rs ns ow → 0 < nodeCapacity ns rs ow (suc u)
+  pub deep : planDepth n rs ns ow ≤ 23
   pub enough : n ≤ subtreeCapacity ns rs ow (planDepth n rs ns ow)
   pub thick : 0 < n → thin (subtreeCapacity ns rs ow) (planDepth n rs ns ow) n ≡ false
 
@@ -87,30 +88,24 @@ module _ (n rs ns ow : ℕ) where
       let p7 = passed (leb 10 ns && leb ns 65536) 7 (ns ∷ []) figures _ (p4 .1) in
       let p8 = passed (ltb 0 rs) 8 [] figures _ (p7 .1) in
       let p9 = passed (leb n 16777215) 9 (n ∷ []) figures _ (p8 .1) in
-      let p10 = passed (leb n (subtreeCapacity ns rs ow (planDepth n rs ns ow))) 10 (planDepth n rs ns ow ∷ []) figures _ (p9 .1) in
+      let p10 = passed (holding n rs ns ow) 10 (emptyLevel n rs ns ow ∷ []) figures _ (p9 .1) in
       let p11 = passed (eqb n 0 || not (thin (subtreeCapacity ns rs ow) (planDepth n rs ns ow) n)) 11 [] figures _ (p10 .1) in
       let sizes = both (leb 10 ns) (leb ns 65536) (p7 .0) in
-      let same : accepted figures ≡ accepted (planFigures n rs ns ow) = sym (p11 .1) in (
+      let same : accepted figures ≡ accepted (planFigures n rs ns ow) = sym (p11 .1) in
+      let pass : Passed n rs ns ow =
+      record {
+        offset = p4 .0;
+        low = leb-true 10 ns (sizes .0);
+        high = leb-true ns 65536 (sizes .1);
+        some = ltb-true 0 rs (p8 .0);
+        few = leb-true n 16777215 (p9 .0);
+      } in (
         record {
-          pass = record {
-            offset = p4 .0;
-            low = leb-true 10 ns (sizes .0);
-            high = leb-true ns 65536 (sizes .1);
-            some = ltb-true 0 rs (p8 .0);
-            few = leb-true n 16777215 (p9 .0);
-          };
-          enough = leb-true n (subtreeCapacity ns rs ow (planDepth n rs ns ow)) (p10 .0);
+          pass = pass;
+          holds = depth-holds n rs ns ow pass (p10 .0);
+          deep = depth-le-23 n rs ns ow pass (p10 .0);
+          enough = depth-holds-all n rs ns ow pass (p10 .0);
           thick = not-thin n (thin (subtreeCapacity ns rs ow) (planDepth n rs ns ow) n) (p11 .0);
         },
         cc,
       )
-
-  pub plannable-accepted : Plannable n rs ns ow → planAnswer n rs ns ow ≡ accepted (planFigures n rs ns ow)
-  unfolding planDepth
-  plannable-accepted p =
-      checks-passed n rs ns ow (p .pass) (depthFor ns rs ow n) refl
-      (le-leb n (subtreeCapacity ns rs ow (depthFor ns rs ow n)) (p .enough)) (passes n _ (p .thick))
-    where
-      passes : (n : ℕ) (t : Bool) → (0 < n → t ≡ false) → (eqb n 0 || not t) ≡ true
-      passes zero t h = refl
-      passes (suc n) t h = rw (h (omega arith), or-true)

@@ -5,24 +5,23 @@ use mathlib.Core.List.{List, [], _∷_}
 use Prim.Native.Nat.{ℕ, _+_, _-_, _*_, _%_, _^_, _≤_, _<_}
 use native.Mathlib.Nat.{mul-le-mul}
 use native.Mathlib.Omega.{arith}
-use lib.Dec.{leb, ltb, eqb}
-use borrow.Author.Tests.{leb-true, not-true, not-false, eq-eqb, ne-eqb}
+use lib.Dec.{ltb, eqb}
+use borrow.Author.Tests.{not-true, not-false, eq-eqb, ne-eqb}
 use mir.Syntax.{w64}
 use mir.Val.{Fits}
 use Rattle.fields.specs.Numbers.{fieldSize}
 use Rattle.refusal.specs.Answer.{Answer, accepted, refused}
-use Rattle.node_info.specs.Capacity.{subtreeCapacity, nodeCapacity, depthFor}
+use Rattle.node_info.specs.Capacity.{subtreeCapacity}
 use Rattle.node_info.proofs.Columns.{subtree-entry}
-use Rattle.node_info.proofs.Depth.{depth-le, depth-small}
-use Rattle.node_info.specs.Table.{infoAt, noInfo}
+use Rattle.node_info.specs.Table.{noInfo}
 use Rattle.node_info.specs.declared.NodeInfo.{NodeInfo}
-use Rattle.plan.specs.Steps.{Passed, levelOf, Countable, Counted}
-use Rattle.plan.specs.Planned.{thin, planDepth, planned, planFigures, planAnswer, Laid}
+use Rattle.plan.specs.Steps.{Passed, Searched, levelOf, Countable, Counted}
+use Rattle.plan.specs.Planned.{thin, planDepth, emptyLevel, planned, planFigures, planAnswer, Laid}
+use Rattle.plan.proofs.Accepted.{thin-plan}
 use Rattle.plan.proofs.Checks.{checks-4, checks-7-low, checks-7-high, checks-8, checks-9, checks-10, checks-11, checks-passed}
 use Rattle.plan.proofs.Counting.{thin-test}
-use Rattle.plan.proofs.Depths.{depth-levels}
+use Rattle.plan.proofs.Depths.{holding, depth-small}
 use Rattle.plan.proofs.Plans.{plan-agree, thin-agree}
-use Rattle.plan.proofs.Thin.{Levels, thin-root}
 
 -- The test for a thin root, where there are no records and where there are.
 pub thin-none : (d n : ℕ) → n ≡ 0 → false ≡ (not (eqb n 0) && ltb n (2 ^ (d + 1) - 1))
@@ -67,64 +66,60 @@ either : (a b : Bool) → (a || not b) ≡ not (not a && b)
 either true b = refl
 either false b = refl
 
-module _ (n rs ns ow : ℕ) (pass : Passed n rs ns ow) (d : ℕ)
-    (deep : d ≡ depthFor ns rs ow n) (b : Bool) (hb : b ≡ leb n (subtreeCapacity ns rs ow d)) where
-  pub laid-10 : (a : Answer) (i : NodeInfo) → not b ≡ true → (a ≡ refused 10 (d ∷ [])) × (i ≡ noInfo) → Laid n rs ns ow a i
-  laid-10 a i e out =
-      refused-out n rs ns ow 10 (d ∷ []) a i out (checks-10 n rs ns ow pass d deep (sym hb ∙ not-true b e))
+-- `lay_out_passed`, by what the search for the depth has found.
+module _ (n rs ns ow : ℕ) (pass : Passed n rs ns ow) (i : NodeInfo) (d : ℕ) (b : Bool) (searched : Searched n rs ns ow i d b) where
+  pub laid-10 : (a : Answer) (o : NodeInfo) → not b ≡ true → (a ≡ refused 10 (d ∷ [])) × (o ≡ noInfo) → Laid n rs ns ow a o
+  laid-10 a o e out =
+      let none = not-true b e in
+      let level : d ≡ emptyLevel n rs ns ow = rw none at (searched .found) in
+      refused-out n rs ns ow 10 (d ∷ []) a o out (rw level (checks-10 n rs ns ow pass (sym (searched .tested) ∙ none)))
+
+  pub level-deep : d ≤ 32
+  level-deep = omega (arith, searched .low)
 
   module _ (eb : not b ≡ false) where
-    enough : leb n (subtreeCapacity ns rs ow d) ≡ true
-    enough = sym hb ∙ not-false b eb
+    test : holding n rs ns ow ≡ true
+    test = sym (searched .tested) ∙ not-false b eb
 
-    holds : n ≤ subtreeCapacity ns rs ow d
-    holds = leb-true n (subtreeCapacity ns rs ow d) enough
-
-    pub laid-depth : d ≤ 32
-    laid-depth = rw deep (depth-le ns rs ow n)
-
-    levels : Levels (subtreeCapacity ns rs ow) (nodeCapacity ns rs ow) d
-    levels = rw deep (depth-levels n rs ns ow (pass .some) (rw deep at holds))
+    deep : d ≡ planDepth n rs ns ow
+    deep = rw (not-false b eb) at (searched .found)
 
     module _ (t : Bool) (ht : t ≡ (not (eqb n 0) && ltb n (2 ^ (d + 1) - 1))) where
-      passing : (eqb n 0 || not (thin (subtreeCapacity ns rs ow) d n)) ≡ not t
-      passing = rw (thin-root (subtreeCapacity ns rs ow) (nodeCapacity ns rs ow) d n levels holds, either, ← ht)
+      passing : (eqb n 0 || not (thin (subtreeCapacity ns rs ow) (planDepth n rs ns ow) n)) ≡ not t
+      passing = rw (thin-plan n rs ns ow pass test, either, ht, deep)
 
-      pub laid-11 : (a : Answer) (i : NodeInfo) → t ≡ true → (a ≡ refused 11 []) × (i ≡ noInfo) → Laid n rs ns ow a i
-      laid-11 a i e out =
-          refused-out n rs ns ow 11 [] a i out (checks-11 n rs ns ow pass d deep enough (passing ∙ ap not e))
+      pub laid-11 : (a : Answer) (o : NodeInfo) → t ≡ true → (a ≡ refused 11 []) × (o ≡ noInfo) → Laid n rs ns ow a o
+      laid-11 a o e out = refused-out n rs ns ow 11 [] a o out (checks-11 n rs ns ow pass test (passing ∙ ap not e))
 
       module _ (et : t ≡ false) where
         passed : planAnswer n rs ns ow ≡ accepted (planFigures n rs ns ow)
-        passed = checks-passed n rs ns ow pass d deep enough (passing ∙ ap not et)
+        passed = checks-passed n rs ns ow pass test (passing ∙ ap not et)
 
-        module _ (i : NodeInfo) (hi : i ≡ infoAt ns rs ow d) where
-          agree : (u : ℕ) → u < d → levelOf (i .«cum_max_nrec») u ≡ subtreeCapacity ns rs ow u
-          agree u h = subtree-entry ns rs ow d i hi u (omega arith) laid-depth
+        agree : (u : ℕ) → u < d → levelOf (i .«cum_max_nrec») u ≡ subtreeCapacity ns rs ow u
+        agree u h = subtree-entry ns rs ow d i (searched .table) u (omega arith) level-deep
 
-          short : (u : ℕ) → u < d → subtreeCapacity ns rs ow u < n
-          short u h = depth-small ns rs ow n u (rw deep at h)
+        short : (u : ℕ) → u < d → subtreeCapacity ns rs ow u < n
+        short u h = depth-small n rs ns ow u (rw deep at h)
 
-          thick : 0 < d → thin (subtreeCapacity ns rs ow) d n ≡ false
-          thick h =
-              not-true _ (rw (ne-eqb n 0 (omega (arith, short 0 h)), et) at passing)
+        thick : 0 < d → thin (subtreeCapacity ns rs ow) d n ≡ false
+        thick h = rw deep (not-true _ (rw (ne-eqb n 0 (omega (arith, short 0 h)), et) at passing))
 
-          pub laid-countable : Countable (i .«cum_max_nrec») d n
-          laid-countable =
-              record {
-                deep = omega (arith, laid-depth);
-                few = omega (arith, pass .few);
-                small = λ u h. rw (agree u h) (omega (arith, short u h, pass .few));
-                thick = λ h. rw (thin-agree (levelOf (i .«cum_max_nrec»)) (subtreeCapacity ns rs ow) d n agree) (thick h);
-              }
+        pub laid-countable : Countable (i .«cum_max_nrec») d n
+        laid-countable =
+            record {
+              deep = omega (arith, level-deep);
+              few = omega (arith, pass .few);
+              small = λ u h. rw (agree u h) (omega (arith, short u h, pass .few));
+              thick = λ h. rw (thin-agree (levelOf (i .«cum_max_nrec»)) (subtreeCapacity ns rs ow) d n agree) (thick h);
+            }
 
-          pub laid-out : (x y : ℕ) → Counted (i .«cum_max_nrec») d n x y → Laid n rs ns ow (accepted (d ∷ x ∷ y ∷ x * ns ∷ [])) i
-          unfolding planFigures planned planDepth
-          laid-out x y counted =
-              let same = plan-agree (levelOf (i .«cum_max_nrec»)) (subtreeCapacity ns rs ow) d n agree in
-              let nx = rw (same, deep) at (counted .«nodes») in
-              let ny = rw (same, deep) at (counted .«leaves») in
-              record { answered = rw passed (rw (nx, ny, deep)); table = rw passed (rw deep at hi) }
+        pub laid-done : (x y : ℕ) → Counted (i .«cum_max_nrec») d n x y → Laid n rs ns ow (accepted (d ∷ x ∷ y ∷ x * ns ∷ [])) i
+        unfolding planFigures planned
+        laid-done x y counted =
+            let same = plan-agree (levelOf (i .«cum_max_nrec»)) (subtreeCapacity ns rs ow) d n agree in
+            let nx = rw (same, deep) at (counted .«nodes») in
+            let ny = rw (same, deep) at (counted .«leaves») in
+            record { answered = rw passed (rw (nx, ny, deep)); table = rw passed (rw deep at (searched .table)) }
 
 -- The image's size.
 pub image-fits : (x ns : ℕ) → x < 2 ^ 24 → ns ≤ 65536 → Fits w64 (x * ns)

@@ -7,5 +7,6 @@ pub mod Depths
 pub mod Laying
 pub mod Lists
 pub mod Plans
+pub mod Searching
 pub mod Thin
 pub mod Trees

@@ -5,9 +5,9 @@ use mathlib.Core.Bool.{Bool, false, not, _||_, _&&_}
 use mathlib.Core.List.{List, [], _∷_, _++_}
 use lib.Dec.{leb, ltb, eqb}
 use lib.ListN.{replicate}
-use Rattle.fields.specs.Numbers.{fieldSize}
+use Rattle.fields.specs.Numbers.{pick, fieldSize}
 use Rattle.refusal.specs.Answer.{Answer, accepted, refused, refusalOf, orElse}
-use Rattle.node_info.specs.Capacity.{subtreeCapacity, depthFor}
+use Rattle.node_info.specs.Capacity.{subtreeCapacity, nodeCapacity}
 use Rattle.node_info.specs.Table.{infoAt, noInfo}
 use Rattle.node_info.specs.declared.NodeInfo.{NodeInfo}
 use Rattle.plan.specs.Tree.{Kids, last, more, Tree, nodes, leaves}
@@ -51,10 +51,19 @@ unfoldable pub thin : (ℕ → ℕ) → ℕ → ℕ → Bool
 thin c zero n = ltb n 1
 thin c (suc d) n = ltb n (2 ^ (d + 2) - 1) || anyOf (thin c d) (children (c d) n)
 
+-- The least of the levels u, u + 1, .. , u + k of which f holds, u + k if it holds of none before that.
+unfoldable pub leastLevel : (ℕ → Bool) → ℕ → ℕ → ℕ
+leastLevel f zero u = u
+leastLevel f (suc k) u = let later = leastLevel f k (u + 1) in pick (f u) u later
+
 module _ (n rs ns ow : ℕ) where
-  -- The depth of the planned tree.
+  -- The depth of the planned tree: the least d with C(d) at least n. It is sought up to level 32; a plan that is accepted has 23 at most.
   unfoldable pub planDepth : ℕ
-  planDepth = depthFor ns rs ow n
+  planDepth = leastLevel (λ u. leb n (subtreeCapacity ns rs ow u)) 32 0
+
+  -- The first of the levels needed for it, 0 to the depth, whose nodes hold none (M = 0); one above the depth where each holds records.
+  unfoldable pub emptyLevel : ℕ
+  emptyLevel = leastLevel (λ u. eqb (nodeCapacity ns rs ow u) 0) (planDepth + 1) 0
 
   -- The planned tree.
   unfoldable pub planned : Tree planDepth
@@ -72,7 +81,7 @@ module _ (n rs ns ow : ℕ) where
       (orElse (leb 10 ns && leb ns 65536) (refused 7 (ns ∷ []))
       (orElse (ltb 0 rs) (refused 8 [])
       (orElse (leb n 16777215) (refused 9 (n ∷ []))
-      (orElse (leb n (subtreeCapacity ns rs ow planDepth)) (refused 10 (planDepth ∷ []))
+      (orElse (eqb n 0 || ltb planDepth emptyLevel) (refused 10 (emptyLevel ∷ []))
       (orElse (eqb n 0 || not (thin (subtreeCapacity ns rs ow) planDepth n)) (refused 11 []) (accepted planFigures))))))
 
 -- The table where an answer accepts, and zeros where it refuses.

@@ -1,12 +1,15 @@
 -- What the planner's private steps ask and give.
 use mathlib.Core.Path.{_≡_}
-use mathlib.Core.Bool.{true, false}
+use mathlib.Core.Bool.{Bool, true, false, _||_}
 use mathlib.Core.List.{List}
 use Prim.Native.Nat.{ℕ, _^_, _≤_, _<_}
+use lib.Dec.{ltb, eqb}
 use lib.ListN.{getD}
-use Rattle.fields.specs.Numbers.{fieldSize}
+use Rattle.fields.specs.Numbers.{pick, fieldSize}
+use Rattle.node_info.specs.Table.{infoAt}
+use Rattle.node_info.specs.declared.NodeInfo.{NodeInfo}
 use Rattle.plan.specs.Tree.{nodes, leaves}
-use Rattle.plan.specs.Planned.{planTree, thin}
+use Rattle.plan.specs.Planned.{planTree, thin, planDepth, emptyLevel}
 
 -- The numbers have passed refusals 4 and 7 to 9.
 pub record Passed (n rs ns ow : ℕ) : Type 0 where
@@ -15,6 +18,14 @@ pub record Passed (n rs ns ow : ℕ) : Type 0 where
   pub high : ns ≤ 65536
   pub some : 0 < rs
   pub few : n ≤ 16777215
+
+-- What the search for the depth has found: the depth where each level needed for it holds records, else the first that holds none; and
+-- the table up to that level.
+pub record Searched (n rs ns ow : ℕ) (info : NodeInfo) (level : ℕ) (enough : Bool) : Type 0 where
+  pub low : level ≤ 23
+  pub table : info ≡ infoAt ns rs ow level
+  pub tested : enough ≡ (eqb n 0 || ltb (planDepth n rs ns ow) (emptyLevel n rs ns ow))
+  pub found : level ≡ pick enough (planDepth n rs ns ow) (emptyLevel n rs ns ow)
 
 -- The capacity of each level's subtrees, out of the table's column.
 abbrev pub levelOf : List ℕ → ℕ → ℕ

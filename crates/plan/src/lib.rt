@@ -6,7 +6,7 @@ ghost use Prim.Native.Nat.{ℕ, _+_, _-_, _*_, _/_, _%_, _^_, _≤_, _<_};
 ghost use lib.Dec.{ltb, eqb};
 ghost use Rattle.refusal.specs.Answer.{refusalOf};
 ghost use Rattle.node_info.specs.Table.{noInfo};
-ghost use Rattle.plan.specs.Steps.{Passed, Countable, Counted};
+ghost use Rattle.plan.specs.Steps.{Passed, Searched, Countable, Counted};
 ghost use Rattle.plan.specs.Planned.{taken, planAnswer, planAnswerOf, Laid};
 use node_info::NodeInfo;
 use refusal::Refusal;
@@ -171,6 +171,38 @@ impl PlanAndTable {
     }
 }
 
+// What the search for the depth finds: a level, the table up to it, and whether the level is enough.
+struct Deepened {
+    info: NodeInfo,
+    depth: u16,
+    enough: bool,
+}
+
+// The search for the depth: from the leaves up, until a level is enough, or holds none. It ends at level 23 at the latest.
+fn deepen(record_count: u64, record_size: u16, node_size: u32, offset_size: u8) -> Deepened
+    requires { ⌜ Passed «record_count» «record_size» «node_size» «offset_size» ⌝ }
+    ensures { λ r. ⌜ Searched «record_count» «record_size» «node_size» «offset_size» (r .info) (r .depth) (r .enough) ⌝ }
+{
+    let mut info = NodeInfo::leaf_only(node_size, record_size);
+    let wide = info.max_nrec_size;
+    let mut u = 0;
+    while info.cum_max_nrec[u] < record_count && 0 < info.max_nrec[u] {
+        let total = info.cum_max_nrec_size[u];
+        let under = info.cum_max_nrec[u];
+        let level = node_info::level_above(node_size, record_size, offset_size, wide, total, under);
+        u += 1;
+        info.cum_max_nrec_size[u] = level.total;
+        info.max_nrec[u] = level.most;
+        info.cum_max_nrec[u] = level.all;
+    }
+    let enough = record_count <= info.cum_max_nrec[u];
+    Deepened {
+        info,
+        depth: u as u16,
+        enough,
+    }
+}
+
 // The plan and its table, for numbers that have passed refusals 4 and 7 to 9. Whether a subtree is too thin is decided at the root.
 fn lay_out_passed(
     record_count: u64,
@@ -181,7 +213,7 @@ fn lay_out_passed(
     requires { ⌜ Passed «record_count» «record_size» «node_size» «offset_size» ⌝ }
     ensures { λ r. ⌜ Laid «record_count» «record_size» «node_size» «offset_size» (planAnswerOf (r .answer)) (r .info) ⌝ }
 {
-    let deepened = NodeInfo::for_record_count(node_size, record_size, offset_size, record_count);
+    let deepened = deepen(record_count, record_size, node_size, offset_size);
     let depth = deepened.depth;
     if !deepened.enough {
         return PlanAndTable::refused(Refusal::LevelHoldsNone(depth));

@@ -1,6 +1,6 @@
 -- The writing call's tests of the lent buffers' lengths, and its own answers in the terms of the format's definitions.
 use Prim.Native.Nat.{ℕ, _+_, _-_, _*_, _^_}
-use mathlib.Core.List.{List, [], _∷_}
+use mathlib.Core.List.{[], _∷_}
 use lib.Dec.{leb, eqb}
 use Rattle.refusal.specs.Answer.{Answer, accepted, refused, orElse}
 use mathlib.Core.Path.{_≡_}

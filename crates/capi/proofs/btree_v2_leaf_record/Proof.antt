@@ -1,5 +1,6 @@
--- `btree_v2_leaf_record` copies the record that is handed out, or says why there is none.
-use Rattle.capi.proofs.Records.{leaf-none, leaf-short, leaf-copied}
+-- `btree_v2_leaf_record` puts what the copy of a record answers.
+use mathlib.Core.Path.{refl}
+use Rattle.refusal.proofs.Answers.{put-is}
 use borrow.Author.Needs.{needs}
 use Rattle.capi.proofs.btree_v2_leaf_record.Statement.{statement}
 use Rattle.capi.proofs.btree_v2_leaf_record.Tie as tie
@@ -10,10 +11,5 @@ btree-v2-leaf-record-spec =
     (tie.spec
     (λ c κs. search needs)
     (λ c κs. search needs)
-    (λ c κs. search needs)
-    (λ c. leaf-none _ _ _ _ _ _ _ (c .before .before .before .before .leaf-record .ensures) (c .before .before .before .if1 .taken) (c .before .before .check-view .result) (c .before .before .check-view .ensures) _ (c .put-verdict .ensures))
-    (λ c κs. search needs)
-    (λ c. leaf-short _ _ _ _ _ _ _ (c .before .before .before .before .leaf-record .ensures) (c .before .before .before .if1 .left) (c .before .before .if2 .taken) _ (c .put-verdict2 .ensures))
-    (λ c κs. search needs)
     (λ c. search needs)
-    (λ c. leaf-copied _ _ _ _ _ _ _ (c .before .before .before .before .before .before .before .leaf-record .ensures) (c .before .before .before .before .before .before .if1 .left) (c .before .before .before .before .before .if2 .left) _ (c .before .before .before .put-bytes .ensures)))
+    (λ c. let copy = c .before .before .before .before .copy-leaf-record .ensures in (put-is (copy .0) refl (c .put-record .ensures), copy .1)))

@@ -1,5 +1,5 @@
--- `level_above` computes C, held at 2^64 - 1, and its width.
-use Rattle.node_info.proofs.Growing.{one-more}
+-- `level_above` computes M, C, held at 2^64 - 1, and its width.
+use Rattle.node_info.proofs.Growing.{one-more, level-is}
 use Rattle.fields.proofs.Numbers.{held-step}
 use borrow.Author.Needs.{needs}
 use Rattle.node_info.proofs.level_above.Statement.{statement}
@@ -9,9 +9,11 @@ pub level-above-spec : {M : Type 1} → statement M
 level-above-spec =
     tie.close
     (tie.spec
-    (λ c κs. c .pre)
+    (λ c. search needs)
+    (λ c. search needs)
+    (λ c κs. search needs)
     (λ c. record { fits = search one-more })
     (λ c κs. search needs)
     (λ c κs. search needs)
     (λ c κs. search needs)
-    (λ c. (c .before .before .before .max-records-internal .ensures, held-step _ _ _ _ _ (c .before .before .saturating-mul .ensures) (c .before .saturating-add .ensures), c .bytes-for-max-records .ensures)))
+    (λ c. level-is _ _ _ _ _ _ _ _ _ (c .before .before .before .max-records-internal .ensures) (held-step _ _ _ _ _ (c .before .before .saturating-mul .ensures) (c .before .saturating-add .ensures)) (c .bytes-for-max-records .ensures)))

@@ -1,5 +1,5 @@
 -- `max_records_internal` is the capacity of an internal node.
-use Rattle.node_info.proofs.Growing.{internal-small, internal-divisor, internal-is}
+use Rattle.node_info.proofs.Growing.{internal-small, internal-no-size, internal-is}
 use borrow.Author.Needs.{needs}
 use Rattle.node_info.proofs.max_records_internal.Statement.{statement}
 use Rattle.node_info.proofs.max_records_internal.Tie as tie
@@ -10,10 +10,9 @@ max-records-internal-spec =
     (tie.spec
     (λ c. search needs)
     (λ c. search needs)
+    (λ c. internal-small _ _ _ (c .if1 .taken))
+    (λ c. search needs)
+    (λ c. internal-no-size _ _ _ (c .if2 .taken))
     (λ c. search needs)
     (λ c. search needs)
-    (λ c. internal-small _ _ _ _ _ (c .before .pre) (c .if1 .taken))
-    (λ c. search needs)
-    (λ c. search needs)
-    (λ c. search internal-divisor)
-    (λ c. internal-is _ _ _ _ _ (c .before .pre)))
+    (λ c. internal-is _ _ _))

@@ -1,5 +1,5 @@
 -- `lay_out_passed`: refusals 10 and 11, and the counts by the table.
-use Rattle.plan.proofs.Laying.{laid-10, laid-11, laid-depth, laid-countable, laid-out, image-fits}
+use Rattle.plan.proofs.Laying.{laid-10, laid-11, level-deep, laid-countable, laid-done, image-fits}
 use borrow.Author.Needs.{needs}
 use Rattle.plan.proofs.lay_out_passed.Statement.{statement}
 use Rattle.plan.proofs.lay_out_passed.Tie as tie
@@ -10,11 +10,17 @@ lay-out-passed-spec =
     (tie.spec
     (λ c κs. search needs)
     (λ c κs. search needs)
-    (λ c. laid-10 _ _ _ _ (c .before .before .before .before .pre) _ (c .before .before .before .for-record-count .ensures .0) _ (c .before .before .before .for-record-count .ensures .2) _ _ (c .before .if1 .taken) (c .refused .ensures))
-    (λ c κs. search laid-depth)
+    (λ c. let found = c .before .before .before in laid-10 _ _ _ _ (found .before .pre) _ _ _ (found .deepen .ensures) _ _ (c .before .if1 .taken) (c .refused .ensures))
+    (λ c κs. search level-deep)
     (λ c κs. search needs)
-    (λ c. laid-11 _ _ _ _ (c .before .before .before .before .before .before .pre) _ (c .before .before .before .before .before .for-record-count .ensures .0) _ (c .before .before .before .before .before .for-record-count .ensures .2) (c .before .before .before .if1 .left) _ (c .before .before .is-thin .ensures) _ _ (c .before .if2 .taken) (c .refused2 .ensures))
+    (λ c.
+    let thin = c .before .before in
+    let found = thin .before .before .before in
+    laid-11 _ _ _ _ (found .before .pre) _ _ _ (found .deepen .ensures) (thin .before .if1 .left) _ (thin .is-thin .ensures) _ _ (c .before .if2 .taken) (c .refused2 .ensures))
     (λ c. search needs)
     (λ c κs. search laid-countable)
     (λ c. search image-fits)
-    (λ c. laid-out _ _ _ _ (c .before .before .before .before .before .before .before .before .before .before .pre) _ (c .before .before .before .before .before .before .before .before .before .for-record-count .ensures .0) _ (c .before .before .before .before .before .before .before .before .before .for-record-count .ensures .2) (c .before .before .before .before .before .before .before .if1 .left) _ (c .before .before .before .before .before .before .is-thin .ensures) (c .before .before .before .before .before .if2 .left) _ (c .before .before .before .before .before .before .before .before .before .for-record-count .ensures .1) _ _ (c .before .count-subtree .ensures)))
+    (λ c.
+    let thin = c .before .before .before .before .before .before in
+    let found = thin .before .before .before in
+    laid-done _ _ _ _ (found .before .pre) _ _ _ (found .deepen .ensures) (thin .before .if1 .left) _ (thin .is-thin .ensures) (c .before .before .before .before .before .if2 .left) _ _ (c .before .count-subtree .ensures)))
