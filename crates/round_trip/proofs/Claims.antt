@@ -32,7 +32,6 @@ use Rattle.btree_v2.specs.declared.Tally.{Tally}
 use Rattle.btree_v2.specs.declared.Collected.{Collected}
 use Rattle.btree_v2_header.specs.Answers.{fieldsOf, headerAnswerOf}
 use Rattle.btree_v2.specs.Answers.{collectedCells}
-use Rattle.btree_v2_write.specs.Call.{Wrote}
 use Rattle.round_trip.specs.declared.RoundTrip.{RoundTrip}
 use Rattle.round_trip.specs.Nodes.{nodeAddress, nodeRecords}
 use Rattle.round_trip.specs.ThreeCalls.{Lent, onHeader, Collects, readBack, Holds, Complete, Answered}
@@ -155,19 +154,20 @@ module _ (file : List ℕ) (ow : ℕ) (out : List ℕ) (p : HeaderAnswer) where
 
 -- The three calls.
 module _ (q : Request) (s : Lent) (x : PlanAnswer) (h i : List ℕ) (p : HeaderAnswer) (c : Collected) (o : List ℕ) where
-  pub answered : q .rs < 65536 → Wrote q (s .records) (s .header) (s .image) (planAnswerOf x) h i
-      → headerAnswerOf p ≡ parsed (s .file) (s .place) (q .ow) (q .lw) → Collects (onHeader (headerAnswerOf p) (s .file) (q .ow) (s .output)) c o
+  pub answered : q .rs < 65536 → planAnswerOf x ≡ written q (s .records) (s .header) (s .image)
+      → h ≡ headerExit q (s .records) (s .header) (s .image) → i ≡ imageExit q (s .records) (s .header) (s .image)
+      → headerAnswerOf p ≡ parsed (s .file) (s .place) (q .ow) (q .lw)
+      → collectedCells c ≡ runCells (onHeader (headerAnswerOf p) (s .file) (q .ow) (s .output))
+      → o ≡ runOutput (onHeader (headerAnswerOf p) (s .file) (q .ow) (s .output))
       → Answered q s (record { written = x; header = p; collected = c }) h i o
   unfolding readBack
-  answered small w told run =
-      let r = rw told at run in
+  answered small wrote hl il told hc ho =
+      let run : Collects (readBack q s) c o = record { cells = rw told at hc; output = rw told at ho } in
       record {
-        written = w .answered;
-        headerLeft = w .headerLeft;
-        imageLeft = w .imageLeft;
+        written = wrote;
+        headerLeft = hl;
+        imageLeft = il;
         parsed = told;
-        collected = r;
-        complete = λ plan e some holds long.
-            let ok = sym (w .answered) ∙ ap planAnswerOf e in
-            complete q plan s ok small some h i (w .headerLeft) (w .imageLeft) holds long _ o told r;
+        collected = run;
+        complete = λ plan e some holds long. complete q plan s (sym wrote ∙ ap planAnswerOf e) small some h i hl il holds long _ o told run;
       }

@@ -24,5 +24,7 @@ round-trip-spec =
     let a = entry .args in
     let q = asked (a .tree-type) (a .record-count) (a .record-size) (a .node-size) (a .offset-size) (a .length-size) (a .start) in
     let s = lent (a .records .now) (a .header .now) (a .image .now) (a .file .now) (a .place) (a .output .now) in
+    let wrote = write .write .ensures in
+    let collected = collect .collect-parsed .ensures in
     answered q s (write .write .result) _ _ (parse .parse .result) (collect .collect-parsed .result) _ (entry .fits .record-size .fits)
-    (write .write .ensures) (parse .parse .ensures) (collect .collect-parsed .ensures)))
+    (wrote .answered) (wrote .headerLeft) (wrote .imageLeft) (parse .parse .ensures) (collected .cells) (collected .output)))
