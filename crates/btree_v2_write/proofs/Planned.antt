@@ -32,7 +32,7 @@ unfolding twoSizes
 two-small zero x y = refl
 two-small (suc k) x y = ap (λ l. y ∷ l) (two-small k x y)
 
-pub two-runs : {A : Type 0} (k e : ℕ) (x y : A) → e ≤ k → twoSizes k e x y ≡ replicate e x ++ replicate (k - e) y
+two-runs : {A : Type 0} (k e : ℕ) (x y : A) → e ≤ k → twoSizes k e x y ≡ replicate e x ++ replicate (k - e) y
 unfolding twoSizes
 two-runs k zero x y h = rw sub-zero (two-small k x y)
 two-runs zero (suc e) x y h = absurd (not-suc-le-zero h)
@@ -92,7 +92,7 @@ front-less (m ∷ k ∷ ms) h = omega (arith, front-less (k ∷ ms) (omega arith
 
 module _ (l : Layout) (d : ℕ) where
   -- A subtree as a child.
-  abbrev pub childAt : ℕ → Child
+  abbrev childAt : ℕ → Child
   childAt m = record { records = count d (subtree l d m); total = size d (subtree l d m); nodes = subtreeNodes l d m }
 
   unfoldable childrenAt : List ℕ → List Child
@@ -181,7 +181,7 @@ module _ (l : Layout) (recs : List ℕ) (d n : ℕ) (thick : thin (capacities l)
         two-any (x .kept + 1) (x .extra) (x .large) (childAt l d (share cap n + 1)) (x .small) (is .large)
         ∙ rw (is .small, is .kept, is .extra, ← children-two l d, two-children)
 
-    pub inner-is : innerBytes l recs x ≡ internalBytes (formAt l) (l .start) recs d (kidsOf (subtree l d) (children cap n)) (x .«first_node») (x .«first_row»)
+    inner-is : innerBytes l recs x ≡ internalBytes (formAt l) (l .start) recs d (kidsOf (subtree l d) (children cap n)) (x .«first_node») (x .«first_row»)
     unfolding innerBytes internalBytes
     inner-is =
         let own = rows-kids l recs d (children cap n) (children-some cap n) sized (x .«first_row») in

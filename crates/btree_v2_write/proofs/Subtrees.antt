@@ -188,6 +188,9 @@ module _ {l : Layout} {most wide : List ℕ} {R I depth n j r k b x : ℕ} (deal
   extra-few : x ≤ k
   extra-few = omega (arith, x-is, k-is, extra-lt (capacities l under) n)
 
+  some-kept : 1 ≤ k
+  some-kept = omega (arith, k-is, taken-pos (capacities l under) n)
+
   -- Child i is ready where this node and this record are reached.
   kid : {I′ : ℕ} (i m next row : ℕ) → I′ ≡ I → m ≡ pick (ltb i x) (b + 1) b → next + subtreeNodes l under m ≤ j + sumOf (subtreeNodes l under) all
       → row + m ≤ r + n → Ready l most wide R I′ under m next row
@@ -205,11 +208,11 @@ module _ {l : Layout} {most wide : List ℕ} {R I depth n j r k b x : ℕ} (deal
         kid 0 m j r refl e (rw first-left (omega arith)) (let q = rw first-left at rows-all in omega (arith, q))
 
 -- The loop over the children from child 1 on. It began with the image o₁, when child 0 had returned `large`; before child i the children have
--- come to `total` records and `nodes` nodes, and the one before it to `small`.
+-- come to `total` records and `nodes` nodes, and the one before it, from child 2 on, to `small`.
 pub record KidsLeft (l : Layout) (most wide recs o₁ : List ℕ) (depth n j r k b x : ℕ) (large : Child) (o : List ℕ) (small : Child) (total nodes i : ℕ) : Type 0 where
   pub dealt : Dealt l most wide (length recs) (length o₁) depth n j r k b x
   pub of-first : ChildOf (depth - 1) (subtree l (depth - 1) (pick (ltb 0 x) (b + 1) b)) large
-  pub of-last : ChildOf (depth - 1) (subtree l (depth - 1) (pick (ltb (i - 1) x) (b + 1) b)) small
+  pub of-last : 1 < i → ChildOf (depth - 1) (subtree l (depth - 1) (pick (ltb (i - 1) x) (b + 1) b)) small
   pub within : (1 ≤ i) × (i ≤ k + 1)
   pub reached : nodes + sumOf (subtreeNodes l (depth - 1)) (from (k + 1) x (b + 1) b i) ≡ sumOf (subtreeNodes l (depth - 1)) (twoSizes (k + 1) x (b + 1) b)
   pub rows : total + i + withOne (from (k + 1) x (b + 1) b i) ≡ n + 1
@@ -243,9 +246,9 @@ module _ (l : Layout) (most wide recs : List ℕ) (depth n j r k b x : ℕ) (o :
   first-asked m e = first-ready now-dealt e
 
 -- The loop begins when the first child is written.
-pub loop-start : {l : Layout} {most wide recs : List ℕ} {depth n j r k b x m : ℕ} {o o₁ : List ℕ} {large : Child}
+pub loop-start : {l : Layout} {most wide recs : List ℕ} {depth n j r k b x m : ℕ} {o o₁ : List ℕ} {large small : Child}
     → Dealt l most wide (length recs) (length o) depth n j r k b x → m ≡ pick (ltb 0 x) (b + 1) b → length o₁ ≡ length o
-    → SubtreeWritten l recs o o₁ (depth - 1) m j r large → KidsLeft l most wide recs o₁ depth n j r k b x large o₁ large (large .total) (large .nodes) 1
+    → SubtreeWritten l recs o o₁ (depth - 1) m j r large → KidsLeft l most wide recs o₁ depth n j r k b x large o₁ small (large .total) (large .nodes) 1
 unfolding sumOf withOne
 loop-start {l} {depth = depth} {m = m} {large = large} dealt e same wrote =
     let many = wrote .child .total ∙ planned-records (capacities l) (depth - 1) m (first-ready dealt e .thick) in
@@ -254,7 +257,7 @@ loop-start {l} {depth = depth} {m = m} {large = large} dealt e same wrote =
     record {
       dealt = rw same dealt;
       of-first = child;
-      of-last = child;
+      of-last = λ h. absurd (omega arith);
       within = (omega arith, omega arith);
       reached = rw (first-left dealt e) (omega (arith, wrote .child .nodes));
       rows = omega (arith, rows, many);
@@ -318,7 +321,7 @@ module _ {l : Layout} {most wide recs : List ℕ} {depth n j r k b x : ℕ} {o�
           record {
             dealt = inv .dealt;
             of-first = inv .of-first;
-            of-last = rw (before, ← e) (wrote .child);
+            of-last = λ _. rw (before, ← e) (wrote .child);
             within = (omega arith, omega arith);
             reached = rw (wrote .child .nodes) (omega (arith, kid-nodes));
             rows = omega (arith, z-total, kid-rows);
@@ -332,6 +335,9 @@ module _ {l : Layout} {most wide recs : List ℕ} {depth n j r k b x : ℕ} {o�
   module _ (past : k < i) where
     last-is : i ≡ k + 1
     last-is = omega (arith, inv .within)
+
+    last-returned : ChildOf d (subtree l d (pick (ltb (i - 1) x) (b + 1) b)) small
+    last-returned = inv .of-last (omega (arith, last-is, some-kept (inv .dealt)))
 
     none-left : rest i ≡ []
     none-left = from-end (k + 1) x (b + 1) b i (omega arith)
@@ -356,7 +362,7 @@ module _ {l : Layout} {most wide recs : List ℕ} {depth n j r k b x : ℕ} {o�
     numbers : Numbers l recs d n (thick (ready (inv .dealt))) inner
     numbers =
         let before : i - 1 ≡ k = omega (arith, last-is) in
-        let last = rw (before, le-ltb k x (extra-few (inv .dealt)), b-is (inv .dealt)) at (inv .of-last) in
+        let last = rw (before, le-ltb k x (extra-few (inv .dealt)), b-is (inv .dealt)) at last-returned in
         record {
           kept = k-is (inv .dealt);
           base = b-is (inv .dealt);
@@ -379,7 +385,7 @@ module _ {l : Layout} {most wide recs : List ℕ} {depth n j r k b x : ℕ} {o�
           few = (omega (arith, kept-small (inv .dealt)), base-few (inv .dealt));
           bytes = rw (width-is (inv .dealt), k-is (inv .dealt)) (omega (arith, bytes));
           rows = le-trans (mul-le-mul-right (l .«record_size») within) (node .rows);
-          some = (some-nodes (inv .of-first), some-nodes (inv .of-last));
+          some = (some-nodes (inv .of-first), some-nodes last-returned);
           short = omega (arith, mul-le-mul-right (l .«node_size») ends, node .short);
         }
 

@@ -29,8 +29,8 @@ subtreeNodes l d n = nodes d (subtree l d n)
 unfoldable pub subtreeImage : Layout → List ℕ → ℕ → ℕ → ℕ → ℕ → List ℕ
 subtreeImage l recs d n j r = image (formAt l) (l .start) recs d (subtree l d n) j r
 
--- A subtree that can be written: the table's entries are those of its levels, it is a leaf or not too thin, its nodes fit, its records are in the list,
--- its nodes in the image, and its addresses below 2^64.
+-- A subtree that can be written: the table's entries are those of its levels, its records are among 2^24, it is a leaf or not too thin, its
+-- nodes fit, its records are in the list, its nodes in the image, and its addresses below 2^64.
 pub record Ready (l : Layout) (most wide : List ℕ) (records image d n j r : ℕ) : Type 0 where
   pub low : d ≤ 32
   pub size : 0 < l .«record_size»

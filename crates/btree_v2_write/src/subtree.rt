@@ -39,7 +39,11 @@ fn write_subtree(
     let extra = dealt.extra as usize;
     let first = node::share(base, extra, 0);
     let large = write_subtree(image, layout, records, most, wide, under, first, j, r);
-    let mut small = large;
+    let mut small = Child {
+        records: 0,
+        total: 0,
+        nodes: 0,
+    };
     let mut total = large.total;
     let mut nodes = large.nodes;
     let mut i = 1;
