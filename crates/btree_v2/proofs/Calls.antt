@@ -115,10 +115,11 @@ module _ {h : BTreeV2Header} (read : RootRead h) (ow : ℕ) (info : NodeInfo)
         totals = λ u k. total-entry (h .«node_size») (h .«record_size») ow (h .depth) info table-is u k (read .deep);
       }
 
-  pub root-walked : (file o : List ℕ) (v : Verdict) (t o1 : List ℕ)
-      → Walked sizes (nodeWalk file sizes (h .depth) (h .«root_node_address») (h .«num_records_in_root») noCounts o) v t o1
-      → (r : Tally) → r ≡ tallyOf t → Small r → Ends (collected file (fieldsOf h) ow o) (record { verdict = v; tally = r }) o1
+  -- A node at address a with n records is the root.
+  pub root-walked : (file o : List ℕ) (a n : ℕ) (v : Verdict) (t o1 : List ℕ) → Walked sizes (nodeWalk file sizes (h .depth) a n noCounts o) v t o1
+      → a ≡ h .«root_node_address» → n ≡ h .«num_records_in_root» → (r : Tally) → r ≡ tallyOf t → Small r
+      → Ends (collected file (fieldsOf h) ow o) (record { verdict = v; tally = r }) o1
   unfolding nodeWalk sourceAt sourceOf
-  root-walked file o v t o1 walked r e small =
+  root-walked file o a n v t o1 walked address records r e small =
       rw (collected-walk file (fieldsOf h) ow o (read .some) (read .root) (read .sized) (read .deep))
-      (walked-ends sizes _ v t o1 walked r e small)
+      (walked-ends sizes _ v t o1 (rw (address, records) at walked) r e small)

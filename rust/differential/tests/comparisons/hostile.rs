@@ -12,7 +12,7 @@ use differential::report::say;
 use nuldrafon::Refusal;
 
 /// The stack that a collecting gets.
-const STACK: usize = 256 << 10;
+const STACK: usize = 192 << 10;
 const SOON: Duration = Duration::from_secs(10);
 /// The most records of a node, for which a count has two bytes.
 const MOST: usize = 65_535;

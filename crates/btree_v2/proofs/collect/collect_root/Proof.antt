@@ -1,5 +1,6 @@
 -- From the root on: the sizes that the table gives, and the walk by them.
 use Rattle.btree_v2.proofs.Calls.{Small, none-within, root-readable, root-walked}
+use mathlib.Core.Path.{refl}
 use borrow.Author.Needs.{needs}
 use native.Mathlib.Omega.{arith}
 use Rattle.btree_v2.proofs.collect.collect_root.Statement.{statement}
@@ -19,4 +20,4 @@ collect-root-spec =
     let small : Small (c .tally-of .result) =
     record { records = omega (arith, ok); leaves = omega (arith, ok); internals = omega (arith, ok); inner = omega (arith, ok) }
     in
-    root-walked (table .before .before .before .pre) _ _ (table .compute .ensures .1) _ _ _ _ _ (c .before .before .before .before .collect-node .ensures) _ (c .tally-of .ensures) small))
+    root-walked (table .before .before .before .pre) _ _ (table .compute .ensures .1) _ _ _ _ _ _ _ (c .before .before .before .before .collect-node .ensures) refl refl _ (c .tally-of .ensures) small))
