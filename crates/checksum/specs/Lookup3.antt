@@ -1,11 +1,11 @@
 -- lookup3's hashlittle, start value 0, on a list of bytes: from lookup3.c (Bob Jenkins, May 2006).
 use Prim.Native.Nat.{ℕ, zero, suc, _+_, _-_, _*_, _/_, _%_, _^_}
-pub use mathlib.Core.Bool.{cond as pick}
 use mathlib.Core.List.{List, [], _∷_}
 use lib.Bits.{bitXor}
 use lib.Dec.{ltb}
 use lib.ListN.{length, getD, drop}
 use Rattle.checksum.specs.declared.Words.{Words}
+pub use mathlib.Core.Bool.{cond as pick}
 
 -- Sums and differences of 32-bit words, modulo 2^32.
 abbrev pub plus : ℕ → ℕ → ℕ

@@ -5,8 +5,8 @@ use native.Mathlib.Nat.{add-le-add, add-mul, add-sub-cancel, div-le-self, div-mu
 use native.Mathlib.Decide.{le-ind}
 use native.Mathlib.Omega.{arith}
 use lib.Arith.{mul-pred}
-use Rattle.fields.specs.Numbers.{held, width}
-use Rattle.fields.proofs.Numbers.{width-pos, width-le, width-holds, width-mono, held-mono, held-add, held-mul}
+use Rattle.numbers.specs.Numbers.{held, width}
+use Rattle.numbers.proofs.Numbers.{width-le, width-holds, width-mono, held-mono, held-add, held-mul}
 use Rattle.node_info.specs.Capacity.{leafCapacity, countWidth, subtree, pointerSize, internalCapacity, subtreeCapacity, totalWidth, nodeCapacity}
 
 -- From one level to the next, so from a level to any above it.
@@ -33,11 +33,6 @@ module _ (ns rs : ℕ) where
   pub leaf-le : leafCapacity ns rs ≤ ns
   unfolding leafCapacity
   leaf-le = le-trans (div-le-self (ns - 10) rs) (sub-le ns 10)
-
-  -- W is from 1 to 8.
-  pub count-width-pos : 1 ≤ countWidth ns rs
-  unfolding countWidth
-  count-width-pos = width-pos _
 
   pub count-width-le : countWidth ns rs ≤ 8
   unfolding countWidth
@@ -73,11 +68,6 @@ module _ (ns rs ow : ℕ) where
   pub total-suc : (u : ℕ) → totalWidth ns rs ow (suc u) ≡ width (subtreeCapacity ns rs ow (suc u))
   unfolding totalWidth
   total-suc u = refl
-
-  -- M is at most the node size, C below 2^64, T at most 8.
-  pub node-le : (u : ℕ) → nodeCapacity ns rs ow u ≤ ns
-  node-le zero = rw node-zero (leaf-le ns rs)
-  node-le (suc u) = rw node-suc (internal-le ns rs _)
 
   held-subtree : (u : ℕ) → subtreeCapacity ns rs ow (suc u) < 2 ^ 64
   held-subtree u = rw subtree-suc (omega arith)

@@ -8,7 +8,7 @@ use native.Mathlib.Omega.{arith}
 use lib.Dec.{leb}
 use lib.ListN.{getD, set, replicate}
 use borrow.Author.Tests.{le-leb, lt-leb}
-use Rattle.fields.specs.Numbers.{pick, width}
+use Rattle.numbers.specs.Numbers.{pick, width}
 use Rattle.refusal.specs.Answer.{accepted, refused}
 use Rattle.node_info.specs.Capacity.{leafCapacity, countWidth, subtree, pointerSize, internalCapacity, subtreeCapacity, totalWidth, nodeCapacity}
 use Rattle.node_info.specs.Table.{columnFrom, column, infoAt, levelAbove, noInfo, tabled}

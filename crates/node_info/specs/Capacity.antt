@@ -1,7 +1,7 @@
 -- Capacities and field widths of a tree's levels, for every node size ns, record size rs and offset size ow: from document 01,
 -- "Capacity table", whose letters stand beside each name; level 0 is the leaves.
 use Prim.Native.Nat.{ℕ, zero, suc, _+_, _-_, _*_, _/_}
-use Rattle.fields.specs.Numbers.{held, width}
+use Rattle.numbers.specs.Numbers.{held, width}
 
 -- L: the records that a leaf holds. Differences stop at 0 and a quotient by 0 is 0.
 unfoldable pub leafCapacity : ℕ → ℕ → ℕ

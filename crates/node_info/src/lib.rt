@@ -2,7 +2,7 @@
 
 ghost use mathlib.Core.Path.{_≡_};
 ghost use lib.Dec.{leb};
-ghost use Rattle.fields.specs.Numbers.{pick};
+ghost use Rattle.numbers.specs.Numbers.{pick};
 ghost use Rattle.node_info.specs.Capacity.{leafCapacity, pointerSize, internalCapacity};
 ghost use Rattle.node_info.specs.Table.{infoAt, levelAbove, noInfo, tabled, tableAnswer};
 use refusal::Refusal;
@@ -75,11 +75,11 @@ pub fn level_above(
 {
     let pointer = (offset_size as u16) + (count_size as u16) + (total_size as u16);
     let most = max_records_internal(node_size, record_size, pointer);
-    let all = counts::saturating_add(counts::saturating_mul(most + 1, under), most);
+    let all = numbers::saturating_add(numbers::saturating_mul(most + 1, under), most);
     Level {
         most,
         all,
-        total: counts::bytes_for_max_records(all),
+        total: numbers::bytes_for_max_records(all),
     }
 }
 
@@ -94,7 +94,7 @@ impl NodeInfo {
         ensures { λ r. ⌜ r ≡ infoAt «node_size» «record_size» 0 0 ⌝ }
     {
         let most = max_records_leaf(node_size, record_size);
-        let wide = counts::bytes_for_max_records(most);
+        let wide = numbers::bytes_for_max_records(most);
         let mut max_nrec = [0u64; 33];
         max_nrec[0] = most;
         let mut cum_max_nrec = [0u64; 33];

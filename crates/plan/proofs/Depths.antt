@@ -8,8 +8,8 @@ use native.Mathlib.Decide.{le-ind}
 use native.Mathlib.Omega.{arith}
 use lib.Dec.{ltb, eqb, lit<}
 use borrow.Author.Tests.{le-leb, lt-leb, leb-true, leb-false, lt-ltb, le-ltb, ltb-true, ltb-false, eq-eqb, ne-eqb, eqb-true, eqb-false}
-use Rattle.fields.specs.Numbers.{pick}
-use Rattle.fields.proofs.Numbers.{lt-or-le}
+use Rattle.numbers.specs.Numbers.{pick}
+use Rattle.numbers.proofs.Numbers.{lt-or-le}
 use Rattle.node_info.specs.Capacity.{subtreeCapacity, nodeCapacity}
 use Rattle.node_info.specs.Table.{infoAt}
 use Rattle.node_info.specs.declared.NodeInfo.{NodeInfo}

@@ -1,13 +1,12 @@
 -- Sums over a list, what holds of all its elements, and the children that are made of it.
-use mathlib.Core.Path.{_≡_, refl, _∙_}
+use mathlib.Core.Path.{_≡_, refl}
 use mathlib.Core.List.{List, [], _∷_, _++_}
 use Prim.Native.Nat.{ℕ, zero, suc, _+_, _-_, _*_, _≤_, _<_}
 use native.Mathlib.Nat.{zero-mul, suc-mul, not-suc-le-zero}
-use native.Mathlib.Numerals.{add-one}
 use native.Mathlib.Omega.{arith}
-use lib.ListN.{length, getD, drop, replicate, length-append, length-replicate, getD-replicate, List·getD-append, drop-of-length-le}
-use lib.Seq.{drop-cons, getD-append-add}
-use Rattle.plan.specs.Tree.{last, more, sumKids, between}
+use lib.ListN.{length, getD, replicate, length-append, length-replicate, getD-replicate, List·getD-append}
+use lib.Seq.{getD-append-add}
+use Rattle.plan.specs.Tree.{sumKids, between}
 use Rattle.plan.specs.Planned.{kidsOf}
 use Rattle.plan.proofs.Trees.{AllKids}
 
@@ -96,24 +95,3 @@ module _ {A : Type 0} (f : ℕ → A) where
   all-kids-of P [] h a = absurd (not-suc-le-zero h)
   all-kids-of P (x ∷ []) h a = a .0
   all-kids-of P (x ∷ y ∷ l) h a = (a .0, all-kids-of P (y ∷ l) (omega arith) (a .1))
-
-  -- Two runs of one number each.
-  pub sumKids-two : (g : A → ℕ) (r s x y : ℕ) → 0 < r + s
-      → sumKids g (kidsOf f (replicate r x ++ replicate s y)) ≡ r * g (f x) + s * g (f y)
-  sumKids-two g r s x y h =
-      sumKids-of g (replicate r x ++ replicate s y) (rw length-two h) ∙ sumOf-two (λ z. g (f z)) r s x y
-
-  pub between-two : (r s x y : ℕ) → 0 < r + s → between (kidsOf f (replicate r x ++ replicate s y)) + 1 ≡ r + s
-  between-two r s x y h = between-of (replicate r x ++ replicate s y) (rw length-two h) ∙ length-two r s x y
-
-  -- Child by child, from child i on.
-  pub kidsOf-more : (l : List ℕ) (i : ℕ) → i + 1 < length l
-      → kidsOf f (drop i l) ≡ more (f (getD l i 0)) (kidsOf f (drop (i + 1) l))
-  unfolding kidsOf
-  kidsOf-more l i h =
-      rw (add-one, drop-cons l i 0 (omega arith), drop-cons l (suc i) 0 (rw add-one at h))
-
-  pub kidsOf-last : (l : List ℕ) (i : ℕ) → i + 1 ≡ length l → kidsOf f (drop i l) ≡ last (f (getD l i 0))
-  unfolding kidsOf
-  kidsOf-last l i h =
-      let e : drop (suc i) l ≡ [] = drop-of-length-le l {i = suc i} (omega arith) in rw (drop-cons l i 0 (omega arith), e)

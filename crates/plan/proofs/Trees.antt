@@ -71,11 +71,6 @@ pub everywhere-root : (P : (u : ℕ) → Tree u → Type 0) (d : ℕ) (t : Tree 
 everywhere-root P zero n e = e
 everywhere-root P (suc d) ts e = e .0
 
-pub everywhere-map : (P Q : (u : ℕ) → Tree u → Type 0) → ((u : ℕ) (t : Tree u) → P u t → Q u t)
-    → (d : ℕ) (t : Tree d) → Everywhere P d t → Everywhere Q d t
-everywhere-map P Q h zero n e = h zero n e
-everywhere-map P Q h (suc d) ts e = (h (suc d) ts (e .0), all-kids-map _ _ (everywhere-map P Q h d) ts (e .1))
-
 pub everywhere-both : (P Q R : (u : ℕ) → Tree u → Type 0) → ((u : ℕ) (t : Tree u) → P u t → Q u t → R u t)
     → (d : ℕ) (t : Tree d) → Everywhere P d t → Everywhere Q d t → Everywhere R d t
 everywhere-both P Q R h zero n p q = h zero n p q

@@ -5,7 +5,7 @@ use mathlib.Core.List.{List}
 use Prim.Native.Nat.{ℕ, _^_, _≤_, _<_}
 use lib.Dec.{ltb, eqb}
 use lib.ListN.{getD}
-use Rattle.fields.specs.Numbers.{pick, fieldSize}
+use Rattle.numbers.specs.Numbers.{pick, fieldSize}
 use Rattle.node_info.specs.Table.{infoAt}
 use Rattle.node_info.specs.declared.NodeInfo.{NodeInfo}
 use Rattle.plan.specs.Tree.{nodes, leaves}

@@ -1,17 +1,17 @@
 -- Laws of an answer as numbers. (`cc` knows that `accepted` and `refused` differ and give back what they hold.)
 use mathlib.Core.Path.{_≡_, refl}
+use Prim.Native.Nat.{_-_, ℕ, suc, _+_, _≤_, _<_}
+use lib.Dec.{lit<, lit≤}
+use Rattle.refusal.specs.Answer.{Answer, accepted, refused, refusalOf, verdictOf, cells}
 use mathlib.Core.List.{List, [], _∷_, _++_, append-assoc}
-use Prim.Native.Nat.{ℕ, suc, _+_, _-_, _≤_, _<_}
 use native.Mathlib.Nat.{add-comm}
 use native.Mathlib.Omega.{arith}
-use lib.Dec.{lit<, lit≤}
 use lib.ListN.{length, take, replicate, length-take, length-append, length-replicate, replicate-append-replicate}
 use lib.Seq.{take-append-add, take-at}
 use Rattle.refusal.specs.declared.Refusal.{Refusal}
 use Rattle.refusal.specs.declared.Refusal.the-variants.{UnexpectedEof, InvalidBTreeV2Signature, InvalidBTreeV2Version, InvalidOffsetSize, InvalidLengthSize, ChecksumMismatch, InvalidNodeSize, ZeroRecordSize, TooManyRecords, LevelHoldsNone, SubtreeTooThin, RecordBufferLength, CountAboveLengthSize, AddressAboveOffsetSize, OutputTooShort, DepthAboveLimit}
 use Rattle.refusal.specs.declared.Verdict.{Verdict}
 use Rattle.refusal.specs.declared.Verdict.the-variants.{Accepted, Refused}
-use Rattle.refusal.specs.Answer.{Answer, accepted, refused, refusalOf, verdictOf, cells}
 
 -- k numbers are k.
 pub length-cells : (k : ℕ) (a : Answer) → length (cells k a) ≡ k

@@ -9,7 +9,7 @@ use lib.Seq.{getD-append-add}
 use Rattle.plan.specs.Tree.{Kids, last, more, Tree, sumKids, count, below, nodes}
 use Rattle.plan.specs.Planned.{planned}
 use Rattle.format.specs.Bytes.{address}
-use Rattle.format.specs.Writing.{Request, formOf, depthOf, nodesOf, rootOf, rootRecordsOf}
+use Rattle.format.specs.Request.{Request, formOf, depthOf, nodesOf, rootOf, rootRecordsOf}
 use Rattle.round_trip.specs.Nodes.{joinKids, counts, nodeAddress, nodeRecords}
 
 length-join : {A : Type 0} (f : A → List ℕ) (g : A → ℕ) → ((t : A) → length (f t) ≡ g t) → (ts : Kids A) → length (joinKids f ts) ≡ sumKids g ts

@@ -3,8 +3,8 @@
 ghost use Rattle.btree_v2_write.specs.Call.{asked};
 ghost use Rattle.btree_v2_header.specs.Answers.{headerAnswerOf};
 ghost use Rattle.round_trip.specs.ThreeCalls.{lent, onHeader, Collects, Answered};
-use btree_v2::Collected;
-use btree_v2::Tally;
+use btree_v2_collect::Collected;
+use btree_v2_collect::Tally;
 use btree_v2_header::BTreeV2Header;
 use btree_v2_header::HeaderAnswer;
 use plan::PlanAnswer;
@@ -28,7 +28,7 @@ fn collect_parsed(
 {
     match parsed {
         HeaderAnswer::Parsed(found) => {
-            btree_v2::collect::collect_btree_v2_records(file, found, offset_size, output)
+            btree_v2_collect::collect::collect_btree_v2_records(file, found, offset_size, output)
         }
         HeaderAnswer::Refused(cause) => Collected {
             verdict: Verdict::Refused(cause),

@@ -1,0 +1,80 @@
+-- What a test's outcome, or a step's, makes of the walk: one law for each.
+use mathlib.Core.Path.{_≡_, refl, ap, fun-ext}
+use mathlib.Core.Bool.{or-true}
+use mathlib.Core.List.{List, [], _∷_}
+use Prim.Native.Nat.{ℕ, zero, suc, _+_, _-_, _*_, _≤_, _<_}
+use native.Mathlib.Nat.{suc-add, zero-add, add-zero, zero-mul}
+use native.Mathlib.Omega.{arith}
+use lib.ListN.{length}
+use borrow.Author.Tests.{le-ltb, lt-ltb, le-leb, lt-leb, eq-eqb, ne-eqb}
+use Rattle.numbers.specs.Numbers.{part}
+use Rattle.numbers.specs.Places.{stored}
+use Rattle.btree_v2_collect.specs.Walk.{Counts, Run, fine, stopped, andThen, noCounts, oneRecord, putRecord, putRecords, nodeRun}
+use Rattle.btree_v2_internal.specs.Internal.{Source}
+use Rattle.btree_v2_header.specs.Header.{Header}
+use Rattle.btree_v2_collect.specs.Collect.{collectTests, sourceOf, collected}
+
+-- A step after a step or a test, by how that ended.
+module _ (next : Counts → List ℕ → Run) where
+  pub then-fine : (r : Run) (c : Counts) (o : List ℕ) → r ≡ fine c o → andThen r next ≡ next c o
+  then-fine r c o e = rw e
+
+-- A record where there is room, and where there is none; n records, split anywhere; those that fit, and 15.
+module _ (s : Source) where
+  module _ (p : ℕ) (c : Counts) (o : List ℕ) where
+    pub put-fits : (c .records + 1) * s .rs ≤ length o
+        → putRecord s p c o ≡ fine (oneRecord c) (stored o (c .records * s .rs) (part (s .file) p (s .rs)))
+    unfolding putRecord
+    put-fits h = rw (le-leb _ _ h)
+
+    pub put-short : length o < (c .records + 1) * s .rs → putRecord s p c o ≡ stopped 15 (length o ∷ []) c o
+    unfolding putRecord
+    put-short h = rw (lt-leb _ _ h)
+
+  then-then : (r : Run) (f g : Counts → List ℕ → Run) → andThen (andThen r f) g ≡ andThen r (λ c o. andThen (f c o) g)
+  then-then (fine c o) f g = refl
+  then-then (stopped number values c o) f g = refl
+
+  pub put-split : (k m p : ℕ) (c : Counts) (o : List ℕ)
+      → putRecords s (k + m) p c o ≡ andThen (putRecords s k p c o) (putRecords s m (p + k * s .rs))
+  unfolding putRecords
+  put-split zero m p c o = rw (zero-add, zero-mul, add-zero)
+  put-split (suc k) m p c o =
+      let e : p + suc k * s .rs ≡ p + s .rs + k * s .rs = omega arith in
+      rw (suc-add, then-then, e) (ap (andThen (putRecord s p c o)) (fun-ext (λ c1. fun-ext (put-split k m (p + s .rs) c1))))
+
+  -- Where k records fit, as r says, and one more does not.
+  pub put-some : (k n p : ℕ) (c c1 : Counts) (o o1 : List ℕ) → k < n → putRecords s k p c o ≡ fine c1 o1
+      → length o1 < (c1 .records + 1) * s .rs → putRecords s n p c o ≡ stopped 15 (length o1 ∷ []) c1 o1
+  unfolding putRecords
+  put-some k n p c c1 o o1 l h short =
+      let e : n ≡ k + suc (n - (k + 1)) = omega arith in
+      rw (e, put-split k (suc (n - (k + 1))) p c o, h, put-short (p + k * s .rs) c1 o1 short)
+
+-- Collecting: nothing to read, its two refusals, and the walk.
+module _ (file : List ℕ) (h : Header) (ow : ℕ) (out : List ℕ) where
+  pub collected-none : h .records ≡ 0 → collected file h ow out ≡ fine noCounts out
+  unfolding collected
+  collected-none e = rw (eq-eqb (h .records) 0 e)
+
+  pub collected-root-none : h .rootRecords ≡ 0 → collected file h ow out ≡ fine noCounts out
+  unfolding collected
+  collected-root-none e = rw (eq-eqb (h .rootRecords) 0 e, or-true)
+
+  module _ (some : h .records ≡ 0 → ⊥) (root : h .rootRecords ≡ 0 → ⊥) where
+    pub collected-8 : h .rs ≡ 0 → collected file h ow out ≡ stopped 8 [] noCounts out
+    unfolding collected
+    collected-8 e = rw (ne-eqb (h .records) 0 some, ne-eqb (h .rootRecords) 0 root, le-ltb 0 (h .rs) (omega arith))
+
+    module _ (bytes : h .rs ≡ 0 → ⊥) where
+      pub collected-16 : 32 < h .depth → collected file h ow out ≡ stopped 16 (h .depth ∷ []) noCounts out
+      unfolding collected
+      collected-16 l =
+          rw (ne-eqb (h .records) 0 some, ne-eqb (h .rootRecords) 0 root, lt-ltb 0 (h .rs) (omega arith), lt-leb (h .depth) 32 l)
+
+      pub collected-walk : h .depth ≤ 32
+          → collected file h ow out
+          ≡ nodeRun (sourceOf file h ow) (collectTests (sourceOf file h ow)) (h .depth) (h .root) (h .rootRecords) noCounts out
+      unfolding collected
+      collected-walk l =
+          rw (ne-eqb (h .records) 0 some, ne-eqb (h .rootRecords) 0 root, lt-ltb 0 (h .rs) (omega arith), le-leb (h .depth) 32 l)
