@@ -1,10 +1,11 @@
 -- The whole call: nothing to read, its two refusals, and the walk from the root on.
 use mathlib.Core.Path.{_≡_, refl, sym, ap, _∙_}
 use mathlib.Core.List.{List, _++_}
-use Prim.Native.Nat.{ℕ, _^_, _≤_, _<_, zero-le}
+use Prim.Native.Nat.{ℕ, _*_, _^_, _≤_, _<_, zero-le}
 use native.Mathlib.Nat.{zero-mul}
 use native.Mathlib.Omega.{arith}
 use lib.Dec.{leb}
+use lib.ListN.{length}
 use borrow.Author.Tests.{le-leb}
 use Rattle.fields.specs.Numbers.{pick}
 use Rattle.fields.proofs.Numbers.{held-small}
@@ -14,8 +15,8 @@ use Rattle.refusal.proofs.Answers.{refused-is}
 use Rattle.node_info.specs.declared.NodeInfo.{NodeInfo}
 use Rattle.node_info.specs.Table.{infoAt, noInfo}
 use Rattle.node_info.proofs.Columns.{total-entry}
-use Rattle.format.specs.Walk.{Run, fine, stopped, noCounts, nodeRun}
-use Rattle.format.specs.Reading.{collected, sourceOf, collectTests, countCells, runCells, runOutput}
+use Rattle.format.specs.Walk.{Run, fine, stopped, noCounts}
+use Rattle.format.specs.Reading.{collected, sourceOf, countCells, runCells, runOutput}
 use Rattle.format.proofs.Outcomes.{collected-none, collected-root-none, collected-8, collected-16, collected-walk}
 use Rattle.btree_v2_header.specs.declared.BTreeV2Header.{BTreeV2Header}
 use Rattle.refusal.specs.declared.Verdict.{Verdict}
@@ -23,10 +24,9 @@ use Rattle.refusal.specs.declared.Verdict.the-variants.{Accepted, Refused}
 use Rattle.btree_v2.specs.declared.Tally.{Tally}
 use Rattle.btree_v2.specs.declared.Collected.{Collected}
 use Rattle.btree_v2.specs.declared.collect.TreeSizes.{TreeSizes}
-use Rattle.btree_v2_internal.specs.declared.Node.{Node}
 use Rattle.btree_v2_header.specs.Answers.{fieldsOf}
 use Rattle.btree_v2.specs.Answers.{collectedCells}
-use Rattle.btree_v2.specs.Collecting.{countsOf, runOf, heldRun, sourceAt, Readable, Within, Walked, nodeWalk}
+use Rattle.btree_v2.specs.Collecting.{countsOf, tallyOf, runOf, heldRun, sourceAt, Readable, Walked, nodeWalk}
 use Rattle.btree_v2.proofs.Holding.{held-held}
 
 -- What the call promises of a walk that ends as x.
@@ -44,24 +44,24 @@ output-held (fine c o) = refl
 output-held (stopped number values c o) = refl
 
 -- An answer's own cells and output.
-cells-of : (v : Verdict) (t : Tally) (o : List ℕ)
-    → runCells (runOf (record { verdict = v; tally = t }) o) ≡ cells 3 (verdictOf v) ++ countCells (countsOf t)
+cells-of : (v : Verdict) (t o : List ℕ) → runCells (runOf v t o) ≡ cells 3 (verdictOf v) ++ countCells (countsOf t)
 unfolding runCells
 cells-of Accepted t o = refl
 cells-of (Refused q) t o = rw (refused-is q .2)
 
-output-of : (v : Verdict) (t : Tally) (o : List ℕ) → runOutput (runOf (record { verdict = v; tally = t }) o) ≡ o
+output-of : (v : Verdict) (t o : List ℕ) → runOutput (runOf v t o) ≡ o
 output-of Accepted t o = refl
 output-of (Refused q) t o = rw (refused-is q .2)
 
-walked-ends : (z : TreeSizes) (x : Run) (r : Collected) (o : List ℕ) → Walked z x r o → r .tally .records < 2 ^ 64
-    → r .tally .leaves < 2 ^ 64 → r .tally .internals < 2 ^ 64 → r .tally .inner < 2 ^ 64 → Ends x r o
-walked-ends z x r o walked a b c d =
-    let count = cells-of (r .verdict) (r .tally) o in (
+walked-ends : (z : TreeSizes) (x : Run) (v : Verdict) (t o : List ℕ) → Walked z x v t o → (r : Tally) → r ≡ tallyOf t → r .records < 2 ^ 64
+    → r .leaves < 2 ^ 64 → r .internals < 2 ^ 64 → r .inner < 2 ^ 64 → Ends x (record { verdict = v; tally = r }) o
+walked-ends z x v t o walked r e a b c d =
+    let count = cells-of v t o in
+    rw e (
       sym
-          (sym (cells-held x) ∙ ap runCells (sym (walked .ends)) ∙ cells-held (runOf r o)
-          ∙ rw (held-small _ a, held-small _ b, held-small _ c, held-small _ d) at count),
-      sym (sym (output-held x) ∙ ap runOutput (sym (walked .ends)) ∙ output-held (runOf r o) ∙ output-of (r .verdict) (r .tally) o),
+          (sym (cells-held x) ∙ ap runCells (sym (walked .ends)) ∙ cells-held (runOf v t o)
+          ∙ rw (held-small _ (rw e at a), held-small _ (rw e at b), held-small _ (rw e at c), held-small _ (rw e at d)) at count),
+      sym (sym (output-held x) ∙ ap runOutput (sym (walked .ends)) ∙ output-held (runOf v t o) ∙ output-of v t o),
     )
 
 abbrev nothing : Tally
@@ -98,13 +98,10 @@ module _ (file : List ℕ) (h : BTreeV2Header) (ow : ℕ) (o : List ℕ) where
             record
             { «node_size» = h .«node_size»; «record_size» = h .«record_size»; «offset_size» = ow; «count_size» = info .«max_nrec_size» }
 
-        abbrev start : Node
-        start = record { address = h .«root_node_address»; records = h .«num_records_in_root» }
-
         table-is : info ≡ infoAt (h .«node_size») (h .«record_size») ow (h .depth)
         table-is = rw (le-leb (h .depth) 32 deep) at table
 
-        pub root-asks : Readable sizes (info .«cum_max_nrec_size») (h .depth) × Within sizes nothing o
+        pub root-asks : Readable sizes (info .«cum_max_nrec_size») (h .depth) × (0 * h .«record_size» ≤ length o)
         unfolding infoAt
         root-asks = (
           record {
@@ -116,13 +113,10 @@ module _ (file : List ℕ) (h : BTreeV2Header) (ow : ℕ) (o : List ℕ) where
           rw zero-mul zero-le,
         )
 
-        pub root-walked : (r : Collected) (o1 : List ℕ) → Walked sizes (nodeWalk file sizes (h .depth) start (countsOf nothing) o) r o1
-            → r .tally .records < 2 ^ 64 → r .tally .leaves < 2 ^ 64 → r .tally .internals < 2 ^ 64 → r .tally .inner < 2 ^ 64
-            → Ends (collected file (fieldsOf h) ow o) r o1
+        pub root-walked : (v : Verdict) (t o1 : List ℕ)
+            → Walked sizes (nodeWalk file sizes (h .depth) (h .«root_node_address») (h .«num_records_in_root») noCounts o) v t o1
+            → (r : Tally) → r ≡ tallyOf t → r .records < 2 ^ 64 → r .leaves < 2 ^ 64 → r .internals < 2 ^ 64 → r .inner < 2 ^ 64
+            → Ends (collected file (fieldsOf h) ow o) (record { verdict = v; tally = r }) o1
         unfolding nodeWalk sourceAt sourceOf
-        root-walked r o1 walked a b c d =
-            rw (collected-walk file (fieldsOf h) ow o some root sized deep) (walked-ends sizes _ r o1 (rw from-root at walked) a b c d)
-          where
-            from-root : nodeWalk file sizes (h .depth) start (countsOf nothing) o
-                ≡ nodeRun (sourceOf file (fieldsOf h) ow) (collectTests (sourceOf file (fieldsOf h) ow)) (h .depth) (h .«root_node_address») (h .«num_records_in_root») noCounts o
-            from-root = refl
+        root-walked v t o1 walked r e a b c d =
+            rw (collected-walk file (fieldsOf h) ow o some root sized deep) (walked-ends sizes _ v t o1 walked r e a b c d)

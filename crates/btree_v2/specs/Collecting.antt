@@ -1,27 +1,30 @@
 -- The collector's own steps in the terms of the walk: what a tally and an answer say, counts held at 2^64 - 1, and what a step is given
 -- and leaves.
-use Prim.Native.Nat.{ℕ, zero, suc, _*_, _≤_, _<_}
+use Prim.Native.Nat.{ℕ, _*_, _≤_, _<_}
 use mathlib.Core.Path.{_≡_}
 use mathlib.Core.List.{List}
 use lib.ListN.{length, getD}
 use Rattle.fields.specs.Numbers.{held}
 use Rattle.node_info.specs.Capacity.{countWidth, totalWidth}
-use Rattle.format.specs.Walk.{Counts, Run, fine, stopped, andThen, ifPassed, Source, Tests, childRun, innerRun, nodeRun}
+use Rattle.format.specs.Walk.{Counts, Run, fine, stopped, ifPassed, Source, Tests, innerRun, childrenRun, nodeRun}
 use Rattle.format.specs.Reading.{collectTests}
 use Rattle.refusal.specs.Answer.{verdictOf}
+use Rattle.refusal.specs.declared.Verdict.{Verdict}
 use Rattle.btree_v2.specs.declared.Tally.{Tally}
-use Rattle.btree_v2.specs.declared.Collected.{Collected}
 use Rattle.btree_v2.specs.declared.collect.TreeSizes.{TreeSizes}
 use Rattle.btree_v2_internal.specs.declared.Sizes.{Sizes}
-use Rattle.btree_v2_internal.specs.declared.Node.{Node}
 
--- A tally's counts.
-abbrev pub countsOf : Tally → Counts
-countsOf t = record { records = t .records; leaves = t .leaves; internals = t .internals; inner = t .inner }
+-- The counts of a tally of four numbers.
+abbrev pub countsOf : List ℕ → Counts
+countsOf t = record { records = getD t 0 0; leaves = getD t 1 0; internals = getD t 2 0; inner = getD t 3 0 }
 
--- How far a walk has come by an answer and an output.
-abbrev pub runOf : Collected → List ℕ → Run
-runOf r o = ifPassed (verdictOf (r .verdict)) (countsOf (r .tally)) o (fine (countsOf (r .tally)) o)
+-- Such a tally as the answer has it.
+abbrev pub tallyOf : List ℕ → Tally
+tallyOf t = record { records = getD t 0 0; leaves = getD t 1 0; internals = getD t 2 0; inner = getD t 3 0 }
+
+-- How far a walk has come by an answer, a tally and an output.
+abbrev pub runOf : Verdict → List ℕ → List ℕ → Run
+runOf v t o = ifPassed (verdictOf v) (countsOf t) o (fine (countsOf t) o)
 
 -- Counts with those of nodes and of records from internal nodes held. The records put out are in the output and need it not.
 abbrev pub heldCounts : Counts → Counts
@@ -64,30 +67,23 @@ pub record Readable (z : TreeSizes) (l : List ℕ) (d : ℕ) : Type 0 where
   pub totals : (u : ℕ) → u ≤ d → getD l u 0 ≡ totalWidth (z .«node_size») (z .«record_size») (z .«offset_size») u
 
 -- The records put out are within the output.
-abbrev pub Within : TreeSizes → Tally → List ℕ → Type 0
-Within z t o = t .records * z .«record_size» ≤ length o
+abbrev pub Within : TreeSizes → List ℕ → List ℕ → Type 0
+Within z t o = getD t 0 0 * z .«record_size» ≤ length o
 
--- The walk x ends as the answer r and the output o say, all counts held; and the records put out are within the output.
-pub record Walked (z : TreeSizes) (x : Run) (r : Collected) (o : List ℕ) : Type 0 where
-  pub ends : heldRun (runOf r o) ≡ heldRun x
-  pub within : Within z (r .tally) o
+-- The walk x ends as the answer v, the tally t and the output o say, all counts held; and the records put out are within the output.
+pub record Walked (z : TreeSizes) (x : Run) (v : Verdict) (t o : List ℕ) : Type 0 where
+  pub ends : heldRun (runOf v t o) ≡ heldRun x
+  pub within : Within z t o
 
 module _ (file : List ℕ) (z : TreeSizes) where
-  -- The walk over a node of level d.
-  unfoldable pub nodeWalk : ℕ → Node → Counts → List ℕ → Run
-  nodeWalk d x = nodeRun (sourceAt file z) (testsAt file z) d (x .address) (x .records)
+  -- The walk over the node of level d at address a with n records.
+  unfoldable pub nodeWalk : ℕ → ℕ → ℕ → Counts → List ℕ → Run
+  nodeWalk = nodeRun (sourceAt file z) (testsAt file z)
 
-  -- The walk over child i and over record i of an internal node whose children have level d.
-  module _ (d : ℕ) (x : Node) where
-    unfoldable pub childWalk : ℕ → Counts → List ℕ → Run
-    childWalk =
-        childRun (sourceAt file z) (testsAt file z) d (x .address) (x .records) (nodeRun (sourceAt file z) (testsAt file z) d)
-
+  -- The walk over record i, and over m + 1 children from child i on with the records between them, of such a node whose children have level d.
+  module _ (d a n : ℕ) where
     unfoldable pub innerWalk : ℕ → Counts → List ℕ → Run
-    innerWalk =
-        innerRun (sourceAt file z) (testsAt file z) d (x .address) (x .records) (nodeRun (sourceAt file z) (testsAt file z) d)
+    innerWalk = innerRun (sourceAt file z) (testsAt file z) d a n (nodeRun (sourceAt file z) (testsAt file z) d)
 
-    -- Child i and, while records are left, record i.
-    unfoldable pub childStep : ℕ → ℕ → Counts → List ℕ → Run
-    childStep zero i c o = childWalk i c o
-    childStep (suc left) i c o = andThen (childWalk i c o) (innerWalk i)
+    unfoldable pub childrenWalk : ℕ → ℕ → Counts → List ℕ → Run
+    childrenWalk = childrenRun (sourceAt file z) (testsAt file z) d a n (nodeRun (sourceAt file z) (testsAt file z) d)

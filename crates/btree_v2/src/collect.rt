@@ -9,7 +9,7 @@ ghost use Rattle.format.specs.Walk.{oneLeaf, oneInternal, oneInner, putRecords,
 ghost use Rattle.format.specs.Reading.{internalTest, collected, runCells, runOutput};
 ghost use Rattle.btree_v2_header.specs.Answers.{fieldsOf};
 ghost use Rattle.btree_v2.specs.Answers.{collectedCells};
-ghost use Rattle.btree_v2.specs.Collecting.{countsOf, heldCounts, sourceAt, Readable, Within, Walked, sizesAbove, nodeWalk, innerWalk, childStep};
+ghost use Rattle.btree_v2.specs.Collecting.{countsOf, tallyOf, heldCounts, sourceAt, Readable, Within, Walked, sizesAbove, nodeWalk, innerWalk, childrenWalk};
 use crate::Collected;
 use crate::Tally;
 use btree_v2_header::BTreeV2Header;
@@ -28,41 +28,27 @@ struct TreeSizes {
     count_size: u8,
 }
 
-// The tally with one leaf, one internal node, or one record from an internal node more.
-fn one_leaf(tally: Tally) -> Tally
-    ensures { λ r. ⌜ heldCounts (countsOf r) ≡ heldCounts (oneLeaf (countsOf tally)) ⌝ }
+// A tally: records put out, leaves read, internal nodes read, and records from internal nodes. One leaf more, one internal node, or one record
+// from an internal node.
+fn one_leaf(tally: &mut [u64; 4])
+    ensures { λ _. ⌜ heldCounts (countsOf (now (tally .exit))) ≡ heldCounts (oneLeaf (countsOf (now (tally .entry)))) ⌝ }
 {
-    let leaves = counts::saturating_add(tally.leaves, 1);
-    Tally {
-        records: tally.records,
-        leaves,
-        internals: tally.internals,
-        inner: tally.inner,
-    }
+    let leaves = counts::saturating_add(tally[1], 1);
+    *tally = [tally[0], leaves, tally[2], tally[3]];
 }
 
-fn one_internal(tally: Tally) -> Tally
-    ensures { λ r. ⌜ heldCounts (countsOf r) ≡ heldCounts (oneInternal (countsOf tally)) ⌝ }
+fn one_internal(tally: &mut [u64; 4])
+    ensures { λ _. ⌜ heldCounts (countsOf (now (tally .exit))) ≡ heldCounts (oneInternal (countsOf (now (tally .entry)))) ⌝ }
 {
-    let internals = counts::saturating_add(tally.internals, 1);
-    Tally {
-        records: tally.records,
-        leaves: tally.leaves,
-        internals,
-        inner: tally.inner,
-    }
+    let internals = counts::saturating_add(tally[2], 1);
+    *tally = [tally[0], tally[1], internals, tally[3]];
 }
 
-fn one_inner(tally: Tally) -> Tally
-    ensures { λ r. ⌜ heldCounts (countsOf r) ≡ heldCounts (oneInner (countsOf tally)) ⌝ }
+fn one_inner(tally: &mut [u64; 4])
+    ensures { λ _. ⌜ heldCounts (countsOf (now (tally .exit))) ≡ heldCounts (oneInner (countsOf (now (tally .entry)))) ⌝ }
 {
-    let inner = counts::saturating_add(tally.inner, 1);
-    Tally {
-        records: tally.records,
-        leaves: tally.leaves,
-        internals: tally.internals,
-        inner,
-    }
+    let inner = counts::saturating_add(tally[3], 1);
+    *tally = [tally[0], tally[1], tally[2], inner];
 }
 
 // How many of n records of this size fit into `room` bytes.
@@ -84,32 +70,22 @@ fn put_records(
     sizes: TreeSizes,
     from: usize,
     n: u16,
-    tally: Tally,
+    tally: &mut [u64; 4],
     output: &mut [u8],
-) -> Collected
-    requires { ⌜ (0 < sizes .«record_size») × (from + n * sizes .«record_size» ≤ length (now file)) × (Within sizes tally (now output)) ⌝ }
-    ensures { λ r. ⌜ Walked sizes (putRecords (sourceAt (now (file .entry)) sizes) n from (countsOf tally) (now (output .entry))) r (now (output .exit)) ⌝ }
+) -> Verdict
+    requires { ⌜ (0 < sizes .«record_size») × (from + n * sizes .«record_size» ≤ length (now file)) × (Within sizes (now tally) (now output)) ⌝ }
+    ensures { λ r. ⌜ Walked sizes (putRecords (sourceAt (now (file .entry)) sizes) n from (countsOf (now (tally .entry))) (now (output .entry))) r (now (tally .exit)) (now (output .exit)) ⌝ }
 {
     let size = sizes.record_size;
-    let at = tally.records as usize * (size as usize);
+    let at = tally[0] as usize * (size as usize);
     let fit = fitting(n, size, output.len() - at);
     fields::put_bytes(output, at, &file[from..from + fit * (size as usize)]);
-    let tally = Tally {
-        records: tally.records + (fit as u64),
-        leaves: tally.leaves,
-        internals: tally.internals,
-        inner: tally.inner,
-    };
+    let records = tally[0] + (fit as u64);
+    *tally = [records, tally[1], tally[2], tally[3]];
     if fit < n as usize {
-        return Collected {
-            verdict: Verdict::Refused(Refusal::OutputTooShort(output.len() as u64)),
-            tally,
-        };
+        return Verdict::Refused(Refusal::OutputTooShort(output.len() as u64));
     }
-    Collected {
-        verdict: Verdict::Accepted,
-        tally,
-    }
+    Verdict::Accepted
 }
 
 // Reads a leaf, whose records are put out at once.
@@ -117,18 +93,19 @@ fn collect_leaf(
     file: &[u8],
     sizes: TreeSizes,
     node: Node,
-    tally: Tally,
+    tally: &mut [u64; 4],
     output: &mut [u8],
-) -> Collected
-    requires { ⌜ (0 < sizes .«record_size») × (Within sizes tally (now output)) ⌝ }
-    ensures { λ r. ⌜ Walked sizes (nodeWalk (now (file .entry)) sizes 0 node (countsOf tally) (now (output .entry))) r (now (output .exit)) ⌝ }
+) -> Verdict
+    requires { ⌜ (0 < sizes .«record_size») × (Within sizes (now tally) (now output)) ⌝ }
+    ensures { λ r. ⌜ Walked sizes (nodeWalk (now (file .entry)) sizes 0 (node .address) (node .records) (countsOf (now (tally .entry))) (now (output .entry))) r (now (tally .exit)) (now (output .exit)) ⌝ }
 {
     let verdict = btree_v2_leaf::check_leaf(file, node.address, node.records, sizes.record_size);
     let Verdict::Accepted = verdict else {
-        return Collected { verdict, tally };
+        return verdict;
     };
     let from = node.address as usize + 6;
-    put_records(file, sizes, from, node.records, one_leaf(tally), output)
+    one_leaf(tally);
+    put_records(file, sizes, from, node.records, tally, output)
 }
 
 // The sizes of an internal node whose children have level `under`.
@@ -183,105 +160,158 @@ fn put_inner(
     under: usize,
     node: Node,
     i: usize,
-    tally: Tally,
+    tally: &mut [u64; 4],
     output: &mut [u8],
-) -> Collected
+) -> Verdict
     requires { ⌜ internalTest (sourceAt (now file) sizes) under (node .address) (node .records) ≡ accepted [] ⌝ }
-    requires { ⌜ (i < node .records) × (0 < sizes .«record_size») × (Within sizes tally (now output)) ⌝ }
-    ensures { λ r. ⌜ Walked sizes (innerWalk (now (file .entry)) sizes under node i (countsOf tally) (now (output .entry))) r (now (output .exit)) ⌝ }
+    requires { ⌜ (i < node .records) × (0 < sizes .«record_size») × (Within sizes (now tally) (now output)) ⌝ }
+    ensures { λ r. ⌜ Walked sizes (innerWalk (now (file .entry)) sizes under (node .address) (node .records) i (countsOf (now (tally .entry))) (now (output .entry))) r (now (tally .exit)) (now (output .exit)) ⌝ }
 {
     let from = node.address as usize + 6 + i * (sizes.record_size as usize);
-    let put = put_records(file, sizes, from, 1, tally, output);
-    let verdict = put.verdict;
+    let verdict = put_records(file, sizes, from, 1, tally, output);
     let Verdict::Accepted = verdict else {
-        return put;
+        return verdict;
     };
-    let tally = put.tally;
-    Collected {
-        verdict: Verdict::Accepted,
-        tally: one_inner(tally),
-    }
+    one_inner(tally);
+    Verdict::Accepted
 }
 
-// Reads the node of level `depth`: a leaf, or an internal node with its children, one after another, and its records between them.
+// Reads the node of level `depth`: a leaf, or an internal node with its children and its records between them. Here and below an answer is taken
+// apart and not returned as it came: of an accepted one, one byte is then handed up.
 fn collect_node(
     file: &[u8],
     sizes: TreeSizes,
     total_sizes: &[u8; 33],
     depth: usize,
-    node: Node,
-    tally: Tally,
+    address: u64,
+    records: u16,
+    tally: &mut [u64; 4],
     output: &mut [u8],
-) -> Collected
+) -> Verdict
     requires { ⌜ Readable sizes (now «total_sizes») depth ⌝ }
-    requires { ⌜ Within sizes tally (now output) ⌝ }
-    ensures { λ r. ⌜ Walked sizes (nodeWalk (now (file .entry)) sizes depth node (countsOf tally) (now (output .entry))) r (now (output .exit)) ⌝ }
+    requires { ⌜ Within sizes (now tally) (now output) ⌝ }
+    ensures { λ r. ⌜ Walked sizes (nodeWalk (now (file .entry)) sizes depth address records (countsOf (now (tally .entry))) (now (output .entry))) r (now (tally .exit)) (now (output .exit)) ⌝ }
 {
+    let node = Node { address, records };
     if depth == 0 {
-        return collect_leaf(file, sizes, node, tally, output);
+        let read = collect_leaf(file, sizes, node, tally, output);
+        let Verdict::Accepted = read else {
+            return read;
+        };
+        return Verdict::Accepted;
     }
     let under = depth - 1;
-    let verdict = check_node(file, sizes, total_sizes, under, node);
-    let Verdict::Accepted = verdict else {
-        return Collected { verdict, tally };
+    let tested = check_node(file, sizes, total_sizes, under, node);
+    let Verdict::Accepted = tested else {
+        return tested;
     };
-    let mut tally = one_internal(tally);
-    let mut i = 0;
-    let mut left = node.records as usize + 1;
-    while 0 < left {
-        let child = collect_child(
-            file,
-            sizes,
-            total_sizes,
-            under,
-            node,
-            i,
-            left,
-            tally,
-            output,
-        );
-        let verdict = child.verdict;
-        let Verdict::Accepted = verdict else {
-            return child;
-        };
-        tally = child.tally;
-        i += 1;
-        left -= 1;
-    }
-    Collected {
-        verdict: Verdict::Accepted,
+    one_internal(tally);
+    let left = records as usize + 1;
+    let read = collect_children(
+        file,
+        sizes,
+        total_sizes,
+        under,
+        address,
+        records,
+        0,
+        left,
         tally,
-    }
+        output,
+    );
+    let Verdict::Accepted = read else {
+        return read;
+    };
+    Verdict::Accepted
 }
 
-// Reads child i of an internal node, the first of `left` children that are left, and puts record i out unless it is the last.
-fn collect_child(
+// Reads `left` children of an internal node, from child i on: one child, or the first half of them, the record between, and the second half.
+// One place has all the answers, so that a halving takes little of the stack.
+fn collect_children(
     file: &[u8],
     sizes: TreeSizes,
     total_sizes: &[u8; 33],
     under: usize,
-    node: Node,
+    address: u64,
+    records: u16,
     i: usize,
     left: usize,
-    tally: Tally,
+    tally: &mut [u64; 4],
     output: &mut [u8],
-) -> Collected
+) -> Verdict
     requires { ⌜ Readable sizes (now «total_sizes») under ⌝ }
-    requires { ⌜ internalTest (sourceAt (now file) sizes) under (node .address) (node .records) ≡ accepted [] ⌝ }
-    requires { ⌜ (i + left ≡ node .records + 1) × (0 < left) × (Within sizes tally (now output)) ⌝ }
-    ensures { λ r. ⌜ Walked sizes (childStep (now (file .entry)) sizes under node (left - 1) i (countsOf tally) (now (output .entry))) r (now (output .exit)) ⌝ }
+    requires { ⌜ internalTest (sourceAt (now file) sizes) under address records ≡ accepted [] ⌝ }
+    requires { ⌜ (i + left ≤ records + 1) × (0 < left) × (Within sizes (now tally) (now output)) ⌝ }
+    ensures { λ r. ⌜ Walked sizes (childrenWalk (now (file .entry)) sizes under address records (left - 1) i (countsOf (now (tally .entry))) (now (output .entry))) r (now (tally .exit)) (now (output .exit)) ⌝ }
 {
-    let below = child_of(file, sizes, total_sizes, under, node, i);
-    let child = collect_node(file, sizes, total_sizes, under, below, tally, output);
-    let verdict = child.verdict;
-    let Verdict::Accepted = verdict else {
-        return child;
-    };
+    let node = Node { address, records };
+    let mut read = Verdict::Accepted;
     if left == 1 {
-        return child;
+        let child = child_of(file, sizes, total_sizes, under, node, i);
+        read = collect_node(
+            file,
+            sizes,
+            total_sizes,
+            under,
+            child.address,
+            child.records,
+            tally,
+            output,
+        );
+        let Verdict::Accepted = read else {
+            return read;
+        };
+        return Verdict::Accepted;
     }
-    let tally = child.tally;
-    put_inner(file, sizes, under, node, i, tally, output)
+    let half = left / 2;
+    read = collect_children(
+        file,
+        sizes,
+        total_sizes,
+        under,
+        address,
+        records,
+        i,
+        half,
+        tally,
+        output,
+    );
+    let Verdict::Accepted = read else {
+        return read;
+    };
+    let between = i + half - 1;
+    read = put_inner(file, sizes, under, node, between, tally, output);
+    let Verdict::Accepted = read else {
+        return read;
+    };
+    read = collect_children(
+        file,
+        sizes,
+        total_sizes,
+        under,
+        address,
+        records,
+        i + half,
+        left - half,
+        tally,
+        output,
+    );
+    let Verdict::Accepted = read else {
+        return read;
+    };
+    Verdict::Accepted
+}
+
+// A tally as the answer has it.
+fn tally_of(tally: &[u64; 4]) -> Tally
+    ensures { λ r. ⌜ r ≡ tallyOf (now (tally .entry)) ⌝ }
+{
+    Tally {
+        records: tally[0],
+        leaves: tally[1],
+        internals: tally[2],
+        inner: tally[3],
+    }
 }
 
 // Collects the records of the tree that a header describes into the front of the output.
@@ -336,17 +366,19 @@ pub fn collect_btree_v2_records(
         offset_size,
         count_size: info.max_nrec_size,
     };
-    let root = Node {
-        address: header.root_node_address,
-        records: header.num_records_in_root,
-    };
-    collect_node(
+    let mut counted: [u64; 4] = [0; 4];
+    let verdict = collect_node(
         file,
         sizes,
         &info.cum_max_nrec_size,
         header.depth as usize,
-        root,
-        tally,
+        header.root_node_address,
+        header.num_records_in_root,
+        &mut counted,
         output,
-    )
+    );
+    Collected {
+        verdict,
+        tally: tally_of(&counted),
+    }
 }

@@ -8,5 +8,9 @@ pub one-internal-spec : {M : Type 1} → statement M
 one-internal-spec =
     tie.close
     (tie.spec
+    (λ c. search needs)
     (λ c κs. search needs)
-    (λ c. internal-more _ _ (c .saturating-add .ensures)))
+    (λ c. search needs)
+    (λ c. search needs)
+    (λ c. search needs)
+    (λ c. internal-more (c .before .before .before .before .before .before .args .tally .now) _ (c .before .before .before .before .saturating-add .ensures)))
