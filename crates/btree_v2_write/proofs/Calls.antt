@@ -1,9 +1,11 @@
 -- The writing call: what its checks give to the functions that fill the outputs, and that these leave the defined bytes.
 use mathlib.Core.Path.{_≡_, refl, sym, _∙_, ap, subst, subst⁻¹}
 use mathlib.Core.List.{List, [], _∷_}
+use mathlib.Core.Logic.{⊎-elim}
 use Prim.Native.Nat.{ℕ, _+_, _-_, _*_, _^_, _≤_, _<_}
-use native.Mathlib.Nat.{zero-add, mul-le-mul-right}
+use native.Mathlib.Nat.{eq-zero-or-pos, one-le-pow, zero-add, zero-mul}
 use native.Mathlib.Omega.{arith}
+use lib.Dec.{lit<}
 use lib.Pow.{pow-mono, pow-pos}
 use lib.ListN.{length, getD}
 use Rattle.fields.specs.Places.{stored, put}
@@ -15,17 +17,19 @@ use Rattle.refusal.proofs.Answers.{refused-is}
 use Rattle.node_info.specs.declared.NodeInfo.{NodeInfo}
 use Rattle.node_info.specs.Capacity.{totalWidth, subtreeCapacity}
 use Rattle.node_info.specs.Table.{infoAt}
-use Rattle.node_info.proofs.Capacities.{leaf-bytes, node-zero, subtree-zero}
 use Rattle.node_info.proofs.Columns.{total-entry, subtree-entry}
 use Rattle.node_info.proofs.Depth.{depth-le, depth-small}
 use Rattle.plan.specs.declared.BTreeV2Plan.{BTreeV2Plan}
 use Rattle.plan.specs.declared.PlanAnswer.{PlanAnswer}
 use Rattle.plan.specs.declared.PlanAnswer.the-variants as plan-answer
-use Rattle.plan.specs.Tree.{nodes, below}
+use Rattle.plan.specs.Tree.{Tree, count, nodes, below}
 use Rattle.plan.specs.Planned.{planDepth, planned, planFigures, planAnswerOf}
+use Rattle.plan.proofs.Accepted.{planned-none, planned-size}
+use Rattle.plan.proofs.Trees.{Everywhere}
 use Rattle.plan.proofs.Checks.{Plannable, accepted-plannable}
-use Rattle.format.specs.Bytes.{address, headerBytes, image}
+use Rattle.format.specs.Bytes.{Form, address, headerBytes, image}
 use Rattle.format.specs.Writing.{Request, formOf, depthOf, nodesOf, imageOf, rootOf, rootRecordsOf, headerOf, written, headerExit, imageExit}
+use Rattle.format.proofs.Lengths.{Fit}
 use Rattle.format.proofs.Accepted.{Accepts, Roomy, accepts, roomy, plan-accepted}
 use Rattle.format.proofs.Collected.{fits}
 use Rattle.format.proofs.HeaderReturn.{length-headerOf}
@@ -35,18 +39,20 @@ use Rattle.frame.specs.declared.Layout.{Layout}
 use Rattle.btree_v2_write.specs.declared.node.Child.{Child}
 use Rattle.write_request.specs.declared.Request as own
 use Rattle.frame.specs.Layouts.{formAt}
-use Rattle.btree_v2_write.specs.Subtrees.{subtreeNodes, subtreeImage, Made, Whole}
+use Rattle.btree_v2_write.specs.Subtrees.{subtree, subtreeNodes, subtreeImage, Ready, SubtreeWritten}
 use Rattle.write_request.specs.Tests.{requestOf, Checked}
 use Rattle.btree_v2_write.specs.Call.{layoutOf, Accepted, Wrote}
 use Rattle.btree_v2_write.proofs.Internal.{address-fits}
-use Rattle.btree_v2_write.proofs.Subtrees.{root-records}
 
-module _ (r : own.Request) (p : BTreeV2Plan) (info : NodeInfo) (recs hdr img : List ℕ) (a : Accepted (requestOf r) p info recs hdr img) where
+empty-fits : (g : Form) → 10 ≤ g .ns → Fit g 0 0
+unfolding count
+empty-fits g h = record { node = omega arith; records = one-le-pow (g .cw) 256 (lit< tt); small = omega arith; total = λ p. absurd (omega arith) }
+
+-- An accepted write, its nodes of the layout l.
+module _ (r : own.Request) {p : BTreeV2Plan} {info : NodeInfo} {recs hdr img : List ℕ} (a : Accepted (requestOf r) p info recs hdr img)
+    {l : Layout} (is : l ≡ layoutOf r (info .«max_nrec_size»)) where
   abbrev q : Request
   q = requestOf r
-
-  abbrev l : Layout
-  l = layoutOf r (info .«max_nrec_size»)
 
   ok : Accepts q recs
   ok = accepts q recs hdr img _ (a .figures)
@@ -61,20 +67,13 @@ module _ (r : own.Request) (p : BTreeV2Plan) (info : NodeInfo) (recs hdr img : L
   unfolding planFigures
   depth-is = let f = known .1 in cc
 
-  nodes-is : p .nodes ≡ nodesOf q
-  unfolding planFigures nodesOf
-  nodes-is = let f = known .1 in cc
-
   low : depthOf q ≤ 32
   unfolding planDepth
   low = depth-le (q .ns) (q .rs) (q .ow) (q .n)
 
-  pub depth-low : p .depth ≤ 32
-  depth-low = rw depth-is low
-
   form-is : formAt l ≡ formOf q
   unfolding formOf infoAt
-  form-is = rw (a .table)
+  form-is = rw (is, a .table)
 
   -- The table's entries are those of the levels.
   caps : (u : ℕ) → u < depthOf q → getD (info .«cum_max_nrec») u 0 ≡ subtreeCapacity (q .ns) (q .rs) (q .ow) u
@@ -88,80 +87,89 @@ module _ (r : own.Request) (p : BTreeV2Plan) (info : NodeInfo) (recs hdr img : L
       let w : 8 * q .ow ≤ 64 = omega (arith, field-size-le (q .ow) (ok .offset)) in
       omega (arith, ok .end, pow-mono w, pow-pos (8 * q .ow))
 
+  -- The planned tree is the subtree that is written.
+  tree-is : subtree l (depthOf q) (q .n) ≡ planned (q .n) (q .rs) (q .ns) (q .ow)
+  unfolding planned
+  tree-is = rw is
+
   nodes-at : subtreeNodes l (depthOf q) (q .n) ≡ nodesOf q
-  unfolding subtreeNodes nodesOf planned
-  nodes-at = refl
+  unfolding nodesOf
+  nodes-at = rw tree-is
 
-  one-node : 1 ≤ nodesOf q
-  unfolding nodesOf nodes
-  one-node = omega arith
-
-  some-records : (depthOf q ≡ 0 → ⊥) → 1 ≤ q .n
+  some-records : 1 ≤ depthOf q → 1 ≤ q .n
   unfolding planDepth
   some-records h = omega (arith, depth-small (q .ns) (q .rs) (q .ow) (q .n) 0 (omega arith))
 
+  -- Every node fits, an empty leaf too.
+  all-fit : Everywhere (Fit (formOf q)) (depthOf q) (planned (q .n) (q .rs) (q .ns) (q .ow))
+  unfolding formOf
+  all-fit =
+      ⊎-elim
+      (λ (e : q .n ≡ 0). rw e (subst⁻¹ (λ (t : (d : ℕ) × Tree d). Everywhere (Fit (formOf q)) (t .0) (t .1)) (planned-none (q .rs) (q .ns) (q .ow)) (empty-fits (formOf q) (known .0 .pass .low))))
+      (λ (some : 0 < q .n). fits q recs ok some)
+      (eq-zero-or-pos (q .n))
+
   -- The image can be written.
-  whole-at : Whole l (info .«cum_max_nrec») (info .«cum_max_nrec_size») (length recs) (length img) (depthOf q) (q .n)
+  pub image-ready : Ready l (info .«cum_max_nrec») (info .«cum_max_nrec_size») (length recs) (length img) (p .depth) (q .n) 0 0
   unfolding planned
-  whole-at =
-      record {
-        leaf = λ none. (
-          omega (arith, room .image, one-node, mul-le-mul-right (q .ns) one-node),
-          leaf-bytes (q .ns) (q .rs) (q .ow) (q .n) (omega (arith, known .0 .pass)) (rw (node-zero, ← subtree-zero (q .ns) (q .rs) (q .ow)) (rw none at (known .0 .enough))),
-          omega (arith, ok .records),
-        );
-        node = λ deeper.
-            let some : 1 ≤ q .n = some-records deeper in
-            record {
-              low = low;
-              size = omega (arith, known .0 .pass);
-              caps = caps;
-              widths = widths;
-              few = omega (arith, known .0 .pass);
-              thick = known .0 .thick some;
-              fits = rw form-is (fits q recs ok some);
-              rows = omega (arith, ok .records);
-              room = rw nodes-at (omega (arith, room .image));
-              short = rw nodes-at (omega (arith, ends));
-            };
-      }
+  image-ready =
+      rw depth-is
+      (record {
+        low = low;
+        size = rw is (omega (arith, known .0 .pass));
+        caps = rw is caps;
+        widths = rw is widths;
+        few = omega (arith, known .0 .pass);
+        thick = λ deeper. rw is (known .0 .thick (some-records deeper));
+        fits = rw (form-is, tree-is) all-fit;
+        rows = rw is (omega (arith, ok .records));
+        room = rw (nodes-at, is) (omega (arith, room .image));
+        short = rw (nodes-at, is) (omega (arith, ends));
+      })
 
-  pub image-ready : Whole l (info .«cum_max_nrec») (info .«cum_max_nrec_size») (length recs) (length img) (p .depth) (q .n)
-  image-ready = subst⁻¹ (λ (d : ℕ). Whole l (info .«cum_max_nrec») (info .«cum_max_nrec_size») (length recs) (length img) d (q .n)) depth-is whole-at
+  -- What came up of the root.
+  module _ {img′ : List ℕ} {root : Child} (wrote : SubtreeWritten l recs img img′ (p .depth) (q .n) 0 0 root) where
+    done : SubtreeWritten l recs img img′ (depthOf q) (q .n) 0 0 root
+    done = rw depth-is at wrote
 
-  pub image-done : (z : List ℕ) → z ≡ stored img 0 (subtreeImage l recs (p .depth) (q .n) 0 0) → z ≡ imageExit q recs hdr img
-  unfolding subtreeImage imageOf planned
-  image-done z e =
-      let same : subtreeImage l recs (depthOf q) (q .n) 0 0 ≡ imageOf q recs = rw form-is in
-      rw (image-put q recs hdr img _ (a .figures), over-stored, ← same, ← depth-is) e
+    image-done : img′ ≡ imageExit q recs hdr img
+    unfolding subtreeImage imageOf
+    image-done =
+        let same : subtreeImage l recs (depthOf q) (q .n) 0 0 ≡ imageOf q recs = rw (form-is, tree-is, is) in
+        rw (image-put q recs hdr img _ (a .figures), over-stored, ← same) (rw zero-mul at (done .image))
 
-  -- The root has a number and an address.
-  pub root-some : 1 ≤ p .nodes
-  root-some = rw nodes-is one-node
+    nodes-is : root .nodes ≡ nodesOf q
+    nodes-is = done .child .nodes ∙ nodes-at
 
-  pub root-short : q .start + (p .nodes - 1) * q .ns < 2 ^ 64
-  root-short = address-fits (q .start) 0 (nodesOf q) (q .ns) (omega (arith, known .0 .pass)) (rw zero-add ends) (p .nodes - 1) (omega (arith, nodes-is))
+    pub root-some : 1 ≤ root .nodes
+    unfolding nodesOf nodes
+    root-some = omega (arith, nodes-is)
 
-  root-address : q .start + (p .nodes - 1) * q .ns ≡ rootOf q
-  unfolding rootOf address formOf nodesOf nodes
-  root-address = let e : p .nodes - 1 ≡ below (depthOf q) (planned (q .n) (q .rs) (q .ns) (q .ow)) = omega (arith, nodes-is) in rw e
+    pub root-short : l .start + (root .nodes - 1) * l .«node_size» < 2 ^ 64
+    root-short = rw is (address-fits (q .start) 0 (nodesOf q) (q .ns) (omega (arith, known .0 .pass)) (rw zero-add ends) (root .nodes - 1) (omega (arith, nodes-is)))
 
-  module _ (root : Child) (made : Made (getD (info .«cum_max_nrec») (p .depth - 1) 0) (p .depth) (q .n) (p .nodes) root) where
-    root-count : root .records ≡ rootRecordsOf q
-    unfolding rootRecordsOf planned
-    root-count =
-        let m = subst (λ (d : ℕ). Made (getD (info .«cum_max_nrec») (d - 1) 0) d (q .n) (p .nodes) root) depth-is made in
-        m .records ∙ root-records l (info .«cum_max_nrec») (depthOf q) (q .n) caps
+    root-address : l .start + (root .nodes - 1) * l .«node_size» ≡ rootOf q
+    unfolding rootOf address formOf nodesOf nodes
+    root-address =
+        let e : root .nodes - 1 ≡ below (depthOf q) (planned (q .n) (q .rs) (q .ns) (q .ow)) = omega (arith, nodes-is) in
+        rw (is, e)
 
     -- The header goes where it fits.
-    pub header-done : (z : List ℕ) (at : ℕ) → at ≡ q .start + (p .nodes - 1) * q .ns
+    header-done : {z : List ℕ} {at : ℕ} → at ≡ l .start + (root .nodes - 1) * l .«node_size»
         → z ≡ put hdr 0 (headerBytes (formAt l) (q .lw) (p .depth) at (root .records) (root .total)) → z ≡ headerExit q recs hdr img
-    unfolding headerOf
-    header-done z at is e =
+    unfolding headerOf rootRecordsOf
+    header-done {z} {at} place e =
+        let records : root .records ≡ rootRecordsOf q = rw tree-is at (done .child .records) in
+        let total : root .total ≡ q .n = rw (tree-is, planned-size (q .n) (q .rs) (q .ns) (q .ow) (known .0)) at (done .child .total) in
         let same : headerBytes (formAt l) (q .lw) (p .depth) at (root .records) (root .total) ≡ headerOf q =
-        rw (is, form-is, depth-is, root-address, root-count, made .total) in
+        rw (place, form-is, depth-is, root-address, records, total) in
         let fits : length (headerOf q) ≤ length hdr = rw length-headerOf (room .header) in
         rw (header-put q recs hdr img _ (a .figures), over-stored, e, same, put-fits hdr 0 (headerOf q) (omega arith))
+
+    pub both-done : {z : List ℕ} {at : ℕ} → at ≡ l .start + (root .nodes - 1) * l .«node_size»
+        → z ≡ put hdr 0 (headerBytes (formAt l) (q .lw) (p .depth) at (root .records) (root .total))
+        → (z ≡ headerExit q recs hdr img) × (img′ ≡ imageExit q recs hdr img)
+    both-done place e = (header-done place e, image-done)
 
 -- `write`, by its two ways out.
 module _ (q : Request) (recs hdr img : List ℕ) (x : PlanAnswer) (info : NodeInfo)

@@ -90,6 +90,30 @@ front-less [] h = absurd (not-suc-le-zero h)
 front-less (m ∷ []) h = omega arith
 front-less (m ∷ k ∷ ms) h = omega (arith, front-less (k ∷ ms) (omega arith))
 
+module _ (l : Layout) (d : ℕ) where
+  -- A subtree as a child.
+  abbrev pub childAt : ℕ → Child
+  childAt m = record { records = count d (subtree l d m); total = size d (subtree l d m); nodes = subtreeNodes l d m }
+
+  unfoldable childrenAt : List ℕ → List Child
+  childrenAt [] = []
+  childrenAt (m ∷ ms) = childAt m ∷ childrenAt ms
+
+  children-two : (k e x y : ℕ) → childrenAt (twoSizes k e x y) ≡ twoSizes k e (childAt x) (childAt y)
+  unfolding twoSizes childrenAt
+  children-two zero e x y = refl
+  children-two (suc k) zero x y = ap (λ z. childAt y ∷ z) (children-two k zero x y)
+  children-two (suc k) (suc e) x y = ap (λ z. childAt x ∷ z) (children-two k e x y)
+
+  nodes-all : (ms : List ℕ) → nodesOfAll (childrenAt ms) ≡ sumOf (subtreeNodes l d) ms
+  unfolding nodesOfAll childrenAt sumOf
+  nodes-all [] = refl
+  nodes-all (m ∷ ms) = rw (nodes-all ms)
+
+  root-place : (j m : ℕ) → j + (subtreeNodes l d m - 1) ≡ j + below d (subtree l d m)
+  unfolding nodes
+  root-place j m = omega arith
+
 module _ (l : Layout) (recs : List ℕ) (d : ℕ) where
   -- The images of subtrees of these numbers of records, one after another.
   unfoldable pub images : List ℕ → ℕ → ℕ → List ℕ
@@ -102,7 +126,7 @@ module _ (l : Layout) (recs : List ℕ) (d : ℕ) where
 
   pub images-kids : (ms : List ℕ) → 0 < length ms → Sized ms → (j r : ℕ)
       → kidsImage (formAt l) (l .start) recs d (image (formAt l) (l .start) recs d) (kidsOf (subtree l d) ms) j r ≡ images ms j r
-  unfolding kidsOf kidsImage images subtreeImage subtreeNodes
+  unfolding kidsOf kidsImage images subtreeImage
   images-kids [] h s j r = absurd (not-suc-le-zero h)
   images-kids (m ∷ []) h s j r = sym (append-nil _)
   images-kids (m ∷ k ∷ ms) h s j r =
@@ -115,41 +139,17 @@ module _ (l : Layout) (recs : List ℕ) (d : ℕ) where
   rows-kids (m ∷ []) h s r = refl
   rows-kids (m ∷ k ∷ ms) h s r = rw (s .0, one-mul, rows-kids (k ∷ ms) (omega arith) (s .1) (r + m + 1))
 
-  -- A subtree as a child.
-  abbrev pub childAt : ℕ → Child
-  childAt m = record { records = count d (subtree l d m); total = m; nodes = subtreeNodes l d m }
-
-  unfoldable pub childrenAt : List ℕ → List Child
-  childrenAt [] = []
-  childrenAt (m ∷ ms) = childAt m ∷ childrenAt ms
-
-  children-two : (k e x y : ℕ) → childrenAt (twoSizes k e x y) ≡ twoSizes k e (childAt x) (childAt y)
-  unfolding twoSizes childrenAt
-  children-two zero e x y = refl
-  children-two (suc k) zero x y = ap (λ z. childAt y ∷ z) (children-two k zero x y)
-  children-two (suc k) (suc e) x y = ap (λ z. childAt x ∷ z) (children-two k e x y)
-
-  pub nodes-all : (ms : List ℕ) → nodesOfAll (childrenAt ms) ≡ sumOf (subtreeNodes l d) ms
-  unfolding nodesOfAll childrenAt sumOf
-  nodes-all [] = refl
-  nodes-all (m ∷ ms) = rw (nodes-all ms)
-
-  root-place : (j m : ℕ) → j + (subtreeNodes l d m - 1) ≡ j + below d (subtree l d m)
-  unfolding subtreeNodes nodes
-  root-place j m = omega arith
-
   module _ (t : ℕ) (e : t ≡ formAt l .tw d) where
-    pointer-at : (m j : ℕ) → size d (subtree l d m) ≡ m → pointer (formAt l) (l .start) recs d (subtree l d m) j ≡ pointerTo l t (childAt m) j
+    pointer-at : (m j : ℕ) → pointer (formAt l) (l .start) recs d (subtree l d m) j ≡ pointerTo l t (childAt l d m) j
     unfolding pointer pointerBytes address pointerTo
-    pointer-at m j s = rw (s, e, root-place j m)
+    pointer-at m j = rw (e, root-place l d j m)
 
-    pub pointers-kids : (ms : List ℕ) → 0 < length ms → Sized ms → (j : ℕ)
-        → pointers (formAt l) (l .start) recs d (kidsOf (subtree l d) ms) j ≡ pointersTo l t (childrenAt ms) j
-    unfolding kidsOf pointers pointersTo childrenAt subtreeNodes
-    pointers-kids [] h s j = absurd (not-suc-le-zero h)
-    pointers-kids (m ∷ []) h s j = pointer-at m j (s .0) ∙ sym (append-nil _)
-    pointers-kids (m ∷ k ∷ ms) h s j =
-        rw (pointer-at m j (s .0), pointers-kids (k ∷ ms) (omega arith) (s .1) (j + nodes d (subtree l d m)))
+    pointers-kids : (ms : List ℕ) → 0 < length ms → (j : ℕ)
+        → pointers (formAt l) (l .start) recs d (kidsOf (subtree l d) ms) j ≡ pointersTo l t (childrenAt l d ms) j
+    unfolding kidsOf pointers pointersTo childrenAt
+    pointers-kids [] h j = absurd (not-suc-le-zero h)
+    pointers-kids (m ∷ []) h j = pointer-at m j ∙ sym (append-nil _)
+    pointers-kids (m ∷ k ∷ ms) h j = rw (pointer-at m j, pointers-kids (k ∷ ms) (omega arith) (j + nodes d (subtree l d m)))
 
 -- The planned node of level d + 1 for n records.
 module _ (l : Layout) (recs : List ℕ) (d n : ℕ) (thick : thin (capacities l) (suc d) n ≡ false) where
@@ -160,7 +160,6 @@ module _ (l : Layout) (recs : List ℕ) (d n : ℕ) (thick : thin (capacities l)
   sized = all-of-map _ _ (plan-size (capacities l) d) (children cap n) (thin-children (capacities l) d n thick)
 
   pub nodes-node : subtreeNodes l (suc d) n ≡ sumOf (subtreeNodes l d) (children cap n) + 1
-  unfolding subtreeNodes
   nodes-node = plan-nodes (capacities l) d n ∙ rw (sumOf-children (λ m. nodes d (subtree l d m)) cap n)
 
   -- The numbers of the node as the code has them.
@@ -168,8 +167,8 @@ module _ (l : Layout) (recs : List ℕ) (d n : ℕ) (thick : thin (capacities l)
     pub kept : x .kept ≡ taken cap n
     pub base : x .base ≡ share cap n
     pub extra : x .extra ≡ extra cap n
-    pub large : 0 < x .extra → x .large ≡ childAt l recs d (share cap n + 1)
-    pub small : x .small ≡ childAt l recs d (share cap n)
+    pub large : 0 < x .extra → x .large ≡ childAt l d (share cap n + 1)
+    pub small : x .small ≡ childAt l d (share cap n)
     pub total : x .«total_size» ≡ formAt l .tw d
 
   module _ (x : Inner) (is : Numbers x) where
@@ -177,15 +176,17 @@ module _ (l : Layout) (recs : List ℕ) (d n : ℕ) (thick : thin (capacities l)
     shares-are =
         rw (is .kept, is .extra, is .base, ← two-children, add-one, front-two)
 
-    children-are : innerChildren x ≡ childrenAt l recs d (children cap n)
+    children-are : innerChildren x ≡ childrenAt l d (children cap n)
     children-are =
-        two-any (x .kept + 1) (x .extra) (x .large) (childAt l recs d (share cap n + 1)) (x .small) (is .large)
-        ∙ rw (is .small, is .kept, is .extra, ← children-two l recs d, two-children)
+        two-any (x .kept + 1) (x .extra) (x .large) (childAt l d (share cap n + 1)) (x .small) (is .large)
+        ∙ rw (is .small, is .kept, is .extra, ← children-two l d, two-children)
 
     pub inner-is : innerBytes l recs x ≡ internalBytes (formAt l) (l .start) recs d (kidsOf (subtree l d) (children cap n)) (x .«first_node») (x .«first_row»)
     unfolding innerBytes internalBytes
     inner-is =
-        rw (shares-are, children-are, rows-kids l recs d (children cap n) (children-some cap n) sized (x .«first_row»), pointers-kids l recs d (x .«total_size») (is .total) (children cap n) (children-some cap n) sized (x .«first_node»))
+        let own = rows-kids l recs d (children cap n) (children-some cap n) sized (x .«first_row») in
+        let below = pointers-kids l recs d (x .«total_size») (is .total) (children cap n) (children-some cap n) (x .«first_node») in
+        rw (shares-are, children-are, own, below)
 
     -- The subtree's image: its children's, and its root's.
     pub image-is : subtreeImage l recs (suc d) n (x .«first_node») (x .«first_row»)
@@ -195,7 +196,7 @@ module _ (l : Layout) (recs : List ℕ) (d n : ℕ) (thick : thin (capacities l)
         rw (inner-is, images-kids l recs d (children cap n) (children-some cap n) sized (x .«first_node») (x .«first_row»))
 
     pub nodes-are : nodesOfAll (innerChildren x) ≡ sumOf (subtreeNodes l d) (children cap n)
-    nodes-are = rw (children-are, nodes-all l recs d (children cap n))
+    nodes-are = rw (children-are, nodes-all l d (children cap n))
 
     pub rows-within : withOne (innerShares x) ≤ n
     rows-within =

@@ -3,18 +3,18 @@ use mathlib.Core.Path.{_≡_, refl, sym, _∙_, ap, subst}
 use mathlib.Core.Bool.{false}
 use mathlib.Core.List.{List, [], _∷_, _++_}
 use Prim.Native.Nat.{ℕ, zero, suc, _+_, _-_, _*_, _^_, _≤_, _<_}
-use native.Mathlib.Nat.{le-trans, mul-le-mul-right, le-mul-of-pos-right, div-le-self, not-suc-le-zero, zero-mul}
+use native.Mathlib.Nat.{le-trans, mul-le-mul-right, div-le-self, not-suc-le-zero}
 use native.Mathlib.Omega.{arith}
 use mir.Val.{Fits}
 use mir.Syntax.{w64}
-use borrow.Author.Tests.{le-ltb, lt-ltb, ne-eqb}
-use lib.Dec.{ltb, eqb, eqb·suc-zero}
+use borrow.Author.Tests.{le-ltb, lt-ltb}
+use lib.Dec.{ltb}
 use lib.ListN.{length, getD}
 use Rattle.fields.specs.Numbers.{pick}
 use Rattle.fields.specs.Places.{stored}
 use Rattle.fields.proofs.Lists.{stored-nil, length-stored}
 use Rattle.node_info.proofs.Capacities.{total-le}
-use Rattle.plan.specs.Tree.{sumKids, between, nodes, below, count, size}
+use Rattle.plan.specs.Tree.{Tree, sumKids, between, nodes, below, count, size}
 use Rattle.plan.specs.Planned.{taken, children, kidsOf, planTree, thin}
 use Rattle.plan.proofs.Dealing.{share, extra, taken-le, taken-pos, extra-lt, children-some, all-children}
 use Rattle.plan.proofs.Lists.{sumOf, AllOf, sumKids-of}
@@ -27,10 +27,10 @@ use Rattle.frame.specs.declared.Layout.{Layout}
 use Rattle.frame.specs.Layouts.{formAt}
 use Rattle.btree_v2_write.specs.declared.node.Child.{Child}
 use Rattle.btree_v2_write.specs.declared.node.Inner.{Inner}
-use Rattle.btree_v2_write.specs.Shares.{twoSizes, withOne, nodesOfAll, innerChildren, innerBytes, InnerFits}
-use Rattle.btree_v2_write.specs.Subtrees.{capacities, subtree, subtreeNodes, subtreeImage, Ready, Made, Whole}
-use Rattle.btree_v2_write.proofs.Internal.{from, from-first, from-step, from-end, stored-turn}
-use Rattle.btree_v2_write.proofs.Planned.{two-children, each-child, one-each, images, images-kids, sized, childAt, Numbers, nodes-node, nodes-are, rows-within, image-is}
+use Rattle.btree_v2_write.specs.Shares.{twoSizes, withOne, nodesOfAll, innerShares, innerChildren, innerBytes, InnerFits}
+use Rattle.btree_v2_write.specs.Subtrees.{capacities, subtree, subtreeNodes, subtreeImage, Ready, ChildOf, SubtreeWritten}
+use Rattle.btree_v2_write.proofs.Internal.{from, from-first, from-step, from-end, stored-turn, number-fits}
+use Rattle.btree_v2_write.proofs.Planned.{two-children, each-child, one-each, images, images-kids, sized, Numbers, nodes-node, nodes-are, rows-within, image-is}
 
 -- What holds of every child of the tree holds of every number that a child is made of.
 all-numbers : {A : Type 0} (f : ℕ → A) (P : A → Type 0) (ms : List ℕ) → 0 < length ms → AllKids P (kidsOf f ms) → AllOf (λ m. P (f m)) ms
@@ -39,214 +39,123 @@ all-numbers f P [] h a = absurd (not-suc-le-zero h)
 all-numbers f P (m ∷ []) h a = (a, tt)
 all-numbers f P (m ∷ k ∷ ms) h a = (a .0, all-numbers f P (k ∷ ms) (omega arith) (a .1))
 
+-- A subtree that is ready has as many records as it says.
+planned-records : (c : ℕ → ℕ) (d n : ℕ) → (1 ≤ d → thin c d n ≡ false) → size d (planTree c d n) ≡ n
+unfolding size planTree
+planned-records c zero n h = refl
+planned-records c (suc d) n h = plan-size c (suc d) n (h (omega arith))
+
 -- A subtree's image is as long as its nodes.
-pub length-subtree : (l : Layout) (most wide recs : List ℕ) (I d n j r : ℕ) → Ready l most wide (length recs) I d n j r
+length-subtree : {l : Layout} {most wide : List ℕ} {I d n j r : ℕ} (recs : List ℕ) → Ready l most wide (length recs) I d n j r
     → length (subtreeImage l recs d n j r) ≡ subtreeNodes l d n * l .«node_size»
-unfolding subtreeImage subtreeNodes
-length-subtree l most wide recs I d n j r ready =
-    length-image (formAt l) (l .start) recs d (subtree l d n) j r (ready .fits) (rw (plan-size (capacities l) d n (ready .thick)) (ready .rows))
+unfolding subtreeImage
+length-subtree {l} {d = d} {n} {j} {r} recs ready =
+    let rows = rw (← planned-records (capacities l) d n (ready .thick)) at (ready .rows) in
+    length-image (formAt l) (l .start) recs d (subtree l d n) j r (ready .fits) rows
 
 -- The children of a subtree of level d + 1 that is ready.
-module _ (l : Layout) (most wide : List ℕ) (R I d n j r : ℕ) (ready : Ready l most wide R I (suc d) n j r) where
+module _ {l : Layout} {most wide : List ℕ} {R I d n j r : ℕ} (ready : Ready l most wide R I (suc d) n j r) where
   abbrev kids : List ℕ
   kids = children (capacities l d) n
 
-  pub cap-is : getD most d 0 ≡ capacities l d
-  cap-is = ready .caps d (omega arith)
+  thick : thin (capacities l) (suc d) n ≡ false
+  thick = ready .thick (omega arith)
 
   some : 1 ≤ n
-  some = thin-pos (capacities l) (suc d) n (ready .thick)
+  some = thin-pos (capacities l) (suc d) n thick
 
-  pub share-less : share (capacities l d) n + 1 ≤ n
+  share-less : share (capacities l d) n + 1 ≤ n
   share-less =
       omega (arith, div-le-self (n - taken (capacities l d) n) (taken (capacities l d) n + 1), taken-pos (capacities l d) n, taken-le (capacities l d) n some)
 
-  pub kept-few : taken (capacities l d) n < 2 ^ 24
+  kept-few : taken (capacities l d) n < 2 ^ 24
   kept-few = omega (arith, taken-le (capacities l d) n some, ready .few)
 
   kids-fit : AllOf (λ m. Everywhere (Fit (formAt l)) d (subtree l d m)) kids
   unfolding planTree
   kids-fit = all-numbers (subtree l d) (Everywhere (Fit (formAt l)) d) kids (children-some (capacities l d) n) (ready .fits .1)
 
-  share-le : (i : ℕ) → pick (ltb i (extra (capacities l d) n)) (share (capacities l d) n + 1) (share (capacities l d) n) ≤ n
-  share-le i = each-child (capacities l d) n (λ m. m ≤ n) (all-children (λ m. m ≤ n) (capacities l d) n (λ _. share-less) (omega (arith, share-less))) i
-
   node-pos : 0 < l .«node_size»
   node-pos = omega (arith, ready .fits .0 .node)
 
-  module _ (i m next row : ℕ) (is : m ≡ pick (ltb i (extra (capacities l d) n)) (share (capacities l d) n + 1) (share (capacities l d) n))
-      (at : next + subtreeNodes l d m ≤ j + sumOf (subtreeNodes l d) kids) (rest : row + m ≤ r + n) where
-    pub child-ready : Ready l most wide R I d m next row
-    child-ready =
-        let less : next + subtreeNodes l d m ≤ j + subtreeNodes l (suc d) n =
-        omega (arith, nodes-node l [] d n (ready .thick)) in
-        let bytes = mul-le-mul-right (l .«node_size») less in
-        record {
-          low = omega (arith, ready .low);
-          size = ready .size;
-          caps = λ u h. ready .caps u (omega arith);
-          widths = λ u h. ready .widths u (omega arith);
-          few = rw is (omega (arith, share-le i, ready .few));
-          thick = rw is (each-child (capacities l d) n (λ y. thin (capacities l) d y ≡ false) (thin-children (capacities l) d n (ready .thick)) i);
-          fits = rw is (each-child (capacities l d) n (λ y. Everywhere (Fit (formAt l)) d (subtree l d y)) kids-fit i);
-          rows = le-trans (mul-le-mul-right (l .«record_size») rest) (ready .rows);
-          room = le-trans bytes (ready .room);
-          short = omega (arith, bytes, ready .short);
-        }
+  -- All nodes but the root.
+  nodes-below : subtreeNodes l (suc d) n ≡ sumOf (subtreeNodes l d) kids + 1
+  nodes-below = nodes-node l [] d n thick
 
--- The loop over the children from child 1 on, where its image, node and record were o₁, next₁ and row₁.
-module _ (l : Layout) (recs o₁ : List ℕ) (next₁ row₁ d j r k b x : ℕ) where
-  abbrev rest : ℕ → List ℕ
-  rest i = from (k + 1) x (b + 1) b i
-
-  abbrev all : List ℕ
-  all = twoSizes (k + 1) x (b + 1) b
-
-  -- Before child i: the node and the record reached, what is left, and the nodes of the child before.
-  pub record KidsLeft (o : List ℕ) (next row last i : ℕ) : Type 0 where
-    pub first : 1 ≤ i
-    pub within : i ≤ k + 1
-    pub reached : next + sumOf (subtreeNodes l d) (rest i) ≡ j + sumOf (subtreeNodes l d) all
-    pub rows : row + withOne (rest i) ≡ r + withOne all
-    pub long : length o ≡ length o₁
-    pub left : stored o (next * l .«node_size») (images l recs d (rest i) next row) ≡ stored o₁ (next₁ * l .«node_size») (images l recs d (rest 1) next₁ row₁)
-    pub before : 1 < i → last ≡ subtreeNodes l d (pick (ltb (i - 1) x) (b + 1) b)
-
-  pub kids-start : (m : ℕ) → m ≡ pick (ltb 0 x) (b + 1) b → next₁ ≡ j + subtreeNodes l d m → row₁ ≡ r + m + 1 → KidsLeft o₁ next₁ row₁ 0 1
-  unfolding sumOf withOne
-  kids-start m e hn hr =
+  child-ready : (i m next row : ℕ) → m ≡ pick (ltb i (extra (capacities l d) n)) (share (capacities l d) n + 1) (share (capacities l d) n)
+      → next + subtreeNodes l d m ≤ j + sumOf (subtreeNodes l d) kids → row + m ≤ r + n → Ready l most wide R I d m next row
+  child-ready i m next row is at rest =
+      let bytes = mul-le-mul-right {m = next + subtreeNodes l d m} {n = j + subtreeNodes l (suc d) n} (l .«node_size») (omega (arith, nodes-below)) in
       record {
-        first = omega arith;
-        within = omega arith;
-        reached = rw (from-first k x (b + 1) b, ← e) (omega (arith, hn));
-        rows = rw (from-first k x (b + 1) b, ← e) (omega (arith, hr));
-        long = refl;
-        left = refl;
-        before = λ h. absurd (omega arith);
+        low = omega (arith, ready .low);
+        size = ready .size;
+        caps = λ u h. ready .caps u (omega arith);
+        widths = λ u h. ready .widths u (omega arith);
+        few = omega (arith, ready .few);
+        thick = λ _. rw is (each-child (capacities l d) n (λ y. thin (capacities l) d y ≡ false) (thin-children (capacities l) d n thick) i);
+        fits = rw is (each-child (capacities l d) n (λ y. Everywhere (Fit (formAt l)) d (subtree l d y)) kids-fit i);
+        rows = le-trans (mul-le-mul-right (l .«record_size») rest) (ready .rows);
+        room = le-trans bytes (ready .room);
+        short = omega (arith, bytes, ready .short);
       }
 
-  module _ (o : List ℕ) (next row last i : ℕ) (inv : KidsLeft o next row last i) where
-    module _ (h : i ≤ k) (m : ℕ) (e : m ≡ pick (ltb i x) (b + 1) b) where
-      kid-left : rest i ≡ m ∷ rest (i + 1)
-      kid-left = rw e (from-step (k + 1) x (b + 1) b i (omega arith))
-
-      pub kid-nodes : next + subtreeNodes l d m + sumOf (subtreeNodes l d) (rest (i + 1)) ≡ j + sumOf (subtreeNodes l d) all
-      unfolding sumOf
-      kid-nodes = let q = rw kid-left at (inv .reached) in omega (arith, q)
-
-      pub kid-rows : row + m + 1 + withOne (rest (i + 1)) ≡ r + withOne all
-      unfolding withOne
-      kid-rows = let q = rw kid-left at (inv .rows) in omega (arith, q)
-
-      pub kids-turn : (o′ : List ℕ) (end : ℕ) → next * l .«node_size» ≤ length o
-          → length (subtreeImage l recs d m next row) ≡ subtreeNodes l d m * l .«node_size»
-          → (next + subtreeNodes l d m) * l .«node_size» ≤ length o
-          → o′ ≡ stored o (next * l .«node_size») (subtreeImage l recs d m next row) → end ≡ next + subtreeNodes l d m
-          → KidsLeft o′ end (row + m + 1) (end - next) (i + 1)
-      unfolding images
-      kids-turn o′ end there long room eo ee =
-          record {
-            first = omega arith;
-            within = omega arith;
-            reached = rw ee kid-nodes;
-            rows = kid-rows;
-            long = ap length eo ∙ length-stored o (next * l .«node_size») (subtreeImage l recs d m next row) (rw long (omega arith)) ∙ inv .long;
-            left =
-                rw (eo, ee, stored-turn o (next * l .«node_size») ((next + subtreeNodes l d m) * l .«node_size») (subtreeImage l recs d m next row) (images l recs d (rest (i + 1)) (next + subtreeNodes l d m) (row + m + 1)) there (rw long (omega arith)))
-                (rw kid-left at (inv .left));
-            before = λ _. let q : i + 1 - 1 ≡ i = omega arith in rw (q, ← e) (omega (arith, ee));
-          }
-
-    pub kids-end : k < i → x ≤ k → (o ≡ stored o₁ (next₁ * l .«node_size») (images l recs d (rest 1) next₁ row₁))
-        × (next ≡ j + sumOf (subtreeNodes l d) all) × (1 ≤ k → last ≡ subtreeNodes l d b)
-    unfolding images sumOf
-    kids-end h few =
-        let q : i ≡ k + 1 = omega (arith, inv .within) in
-        let none : rest i ≡ [] = from-end (k + 1) x (b + 1) b i (omega arith) in
-        let z = rw none at (inv .reached) in
-        let s : i - 1 ≡ k = omega arith in
-        (sym (stored-nil o (next * l .«node_size»)) ∙ (rw none at (inv .left)), omega (arith, z), λ p. rw (s, le-ltb k x few) at (inv .before (omega arith)))
-
--- The children's images are as long as their nodes.
-length-images : (l : Layout) (most wide recs : List ℕ) (I d n j r : ℕ) → Ready l most wide (length recs) I (suc d) n j r
-    → length (images l recs d (children (capacities l d) n) j r) ≡ sumOf (subtreeNodes l d) (children (capacities l d) n) * l .«node_size»
-unfolding subtreeNodes planTree size
-length-images l most wide recs I d n j r ready =
-    let g = formAt l in
-    let kids = children (capacities l d) n in
-    let some = children-some (capacities l d) n in
-    let room : (r + (sumKids (size d) (kidsOf (subtree l d) kids) + between (kidsOf (subtree l d) kids))) * l .«record_size» ≤ length recs =
-    rw (plan-size (capacities l) (suc d) n (ready .thick)) (ready .rows) in
-    rw (← images-kids l recs d kids some (sized l recs d n (ready .thick)) j r, length-children g (l .start) recs d (length-image g (l .start) recs d) (kidsOf (subtree l d) kids) j r (ready .fits .1) room, sumKids-of (subtree l d) (nodes d) kids some)
-
-pub root-records : (l : Layout) (most : List ℕ) (d m : ℕ) → ((u : ℕ) → u < d → getD most u 0 ≡ capacities l u)
-    → pick (eqb d 0) m (taken (getD most (d - 1) 0) m) ≡ count d (subtree l d m)
-unfolding count planTree
-root-records l most zero m h = refl
-root-records l most (suc d) m h =
-    let q : suc d - 1 ≡ d = omega arith in rw (eqb·suc-zero, q, h d (omega arith)) (sym (plan-count (capacities l) d m))
-
-child-made : (l : Layout) (most recs : List ℕ) (d m size : ℕ) (z : Child) → ((u : ℕ) → u < d → getD most u 0 ≡ capacities l u)
-    → size ≡ subtreeNodes l d m → Made (getD most (d - 1) 0) d m size z → z ≡ childAt l recs d m
-child-made l most recs d m size z h q g =
-    let a = g .records ∙ root-records l most d m h in let b = g .nodes ∙ q in let t = g .total in λ i. record { records = a i; total = t i; nodes = b i }
-
-some-nodes : (l : Layout) (d m : ℕ) → 0 < subtreeNodes l d m
-unfolding subtreeNodes nodes
-some-nodes l d m = omega arith
-
--- The numbers of a node as the code puts them together.
-pub record Root (k b x j r t : ℕ) (y : Inner) : Type 0 where
-  pub kept : y .kept ≡ k
-  pub base : y .base ≡ b
-  pub extra : y .extra ≡ x
-  pub node : y .«first_node» ≡ j
-  pub row : y .«first_row» ≡ r
-  pub total : y .«total_size» ≡ t
+  -- The children's images are as long as their nodes.
+  length-images : (recs : List ℕ) → R ≡ length recs → length (images l recs d kids j r) ≡ sumOf (subtreeNodes l d) kids * l .«node_size»
+  unfolding planTree size
+  length-images recs same =
+      let g = formAt l in
+      let trees = kidsOf (subtree l d) kids in
+      let many = children-some (capacities l d) n in
+      let room : (r + (sumKids (size d) trees + between trees)) * l .«record_size» ≤ length recs =
+      rw (plan-size (capacities l) (suc d) n thick) (rw same at (ready .rows)) in
+      let long = length-children g (l .start) recs d (length-image g (l .start) recs d) trees j r (ready .fits .1) room in
+      rw (← images-kids l recs d kids many (sized l recs d n thick) j r, long, sumKids-of (subtree l d) (nodes d) kids many)
 
 -- A leaf.
-module _ (l : Layout) (most wide recs o : List ℕ) (depth n j r : ℕ) (ready : Ready l most wide (length recs) (length o) depth n j r) (none : depth ≡ 0) where
-  leaf-ready : Ready l most wide (length recs) (length o) 0 n j r
-  leaf-ready = subst (λ z. Ready l most wide (length recs) (length o) z n j r) none ready
+module _ (l : Layout) (most wide recs o : List ℕ) (depth n j r : ℕ) (ready : Ready l most wide (length recs) (length o) depth n j r) (none : depth < 1) where
+  is-leaf : depth ≡ 0
+  is-leaf = omega arith
 
-  pub leaf-asked : ((j + 1) * l .«node_size» ≤ length o) × (10 + n * l .«record_size» ≤ l .«node_size») × ((r + n) * l .«record_size» ≤ length recs)
-  unfolding subtreeNodes nodes below count planTree
-  leaf-asked = (leaf-ready .room, leaf-ready .fits .node, leaf-ready .rows)
+  leaf : Ready l most wide (length recs) (length o) 0 n j r
+  leaf = subst (λ z. Ready l most wide (length recs) (length o) z n j r) is-leaf ready
 
-  pub leaf-next-fits : length o < 2 ^ 64 → Fits w64 (j + 1)
-  leaf-next-fits h = omega (arith, le-mul-of-pos-right {m = l .«node_size»} (j + 1) (omega (arith, leaf-asked .1)), leaf-asked .0)
+  pub leaf-room : (j + 1) * l .«node_size» ≤ length o
+  unfolding nodes below
+  leaf-room = leaf .room
+
+  pub leaf-fits : 10 + n * l .«record_size» ≤ l .«node_size»
+  unfolding count planTree
+  leaf-fits = leaf .fits .node
 
   pub leaf-done : (o′ : List ℕ) → o′ ≡ stored o (j * l .«node_size») (padded (l .«node_size») (leafBytes (formAt l) (l .start) recs n r))
-      → (o′ ≡ stored o (j * l .«node_size») (subtreeImage l recs depth n j r)) × (j + 1 ≡ j + subtreeNodes l depth n)
-  unfolding subtreeImage subtreeNodes nodes below image planTree
-  leaf-done o′ e = (rw none e, rw none)
+      → SubtreeWritten l recs o o′ depth n j r (record { records = n; total = n; nodes = 1 })
+  unfolding subtreeImage nodes below count size image planTree
+  leaf-done o′ e =
+      rw is-leaf (record { image = e; child = record { records = refl; total = refl; nodes = refl } })
 
 -- A node of depth at least 1 that keeps k records; its children have b records, the first x of them one more.
-pub record Dealt (l : Layout) (most wide recs o : List ℕ) (depth n j r k b x : ℕ) : Type 0 where
-  pub given : Ready l most wide (length recs) (length o) depth n j r
-  pub pos : depth ≡ 0 → ⊥
+pub record Dealt (l : Layout) (most wide : List ℕ) (R I depth n j r k b x : ℕ) : Type 0 where
+  pub given : Ready l most wide R I depth n j r
+  pub pos : 1 ≤ depth
   pub kept : k ≡ taken (getD most (depth - 1) 0) n
   pub base : b ≡ share (getD most (depth - 1) 0) n
   pub extra : x ≡ extra (getD most (depth - 1) 0) n
 
-module _ {l : Layout} {most wide recs o : List ℕ} {depth n j r k b x : ℕ} (dealt : Dealt l most wide recs o depth n j r k b x) where
-  given : Ready l most wide (length recs) (length o) depth n j r
-  given = dealt .given
-
+module _ {l : Layout} {most wide : List ℕ} {R I depth n j r k b x : ℕ} (dealt : Dealt l most wide R I depth n j r k b x) where
   abbrev under : ℕ
   under = depth - 1
+
+  abbrev all : List ℕ
+  all = twoSizes (k + 1) x (b + 1) b
 
   deeper : depth ≡ suc under
   deeper = omega (arith, dealt .pos)
 
-  lower : under < depth
-  lower = omega (arith, dealt .pos)
-
-  ready : Ready l most wide (length recs) (length o) (suc under) n j r
-  ready = subst (λ z. Ready l most wide (length recs) (length o) z n j r) deeper given
+  ready : Ready l most wide R I (suc under) n j r
+  ready = subst (λ z. Ready l most wide R I z n j r) deeper (dealt .given)
 
   entry : getD most under 0 ≡ capacities l under
-  entry = cap-is l most wide (length recs) (length o) under n j r ready
+  entry = ready .caps under (omega arith)
 
   k-is : k ≡ taken (capacities l under) n
   k-is = rw entry at (dealt .kept)
@@ -257,221 +166,269 @@ module _ {l : Layout} {most wide recs o : List ℕ} {depth n j r k b x : ℕ} (d
   x-is : x ≡ extra (capacities l under) n
   x-is = rw entry at (dealt .extra)
 
-  all-is : twoSizes (k + 1) x (b + 1) b ≡ children (capacities l under) n
+  all-is : all ≡ children (capacities l under) n
   all-is = rw (k-is, x-is, b-is) (two-children (capacities l under) n)
 
-  rows-all : withOne (twoSizes (k + 1) x (b + 1) b) ≡ n + 1
-  rows-all = rw all-is (one-each (capacities l under) n (thin-pos (capacities l) (suc under) n (ready .thick)))
+  rows-all : withOne all ≡ n + 1
+  rows-all = rw all-is (one-each (capacities l under) n (some ready))
 
-  rows-fit : length recs * 1 < 2 ^ 63 → r + n < 2 ^ 63
-  rows-fit h = omega (arith, le-mul-of-pos-right (r + n) (given .size), given .rows)
+  nodes-all : subtreeNodes l (suc under) n ≡ sumOf (subtreeNodes l under) all + 1
+  nodes-all = rw all-is (nodes-below ready)
 
   pub base-few : b < 2 ^ 32
-  base-few = omega (arith, b-is, share-less l most wide (length recs) (length o) under n j r ready, ready .few)
+  base-few = omega (arith, b-is, share-less ready, ready .few)
 
   pub kept-small : k < 2 ^ 24
-  kept-small = omega (arith, k-is, kept-few l most wide (length recs) (length o) under n j r ready)
+  kept-small = omega (arith, k-is, kept-few ready)
+
+  width-is : getD wide under 0 ≡ formAt l .tw under
+  width-is = ready .widths under (omega arith)
 
   pub width-small : Fits w64 (getD wide under 0)
-  width-small =
-      omega (arith, given .widths under lower, total-le (l .«node_size») (l .«record_size») (l .«offset_size») under)
+  width-small = omega (arith, width-is, total-le (l .«node_size») (l .«record_size») (l .«offset_size») under)
 
   extra-few : x ≤ k
   extra-few = omega (arith, x-is, k-is, extra-lt (capacities l under) n)
 
-  some-kept : 1 ≤ k
-  some-kept = omega (arith, k-is, taken-pos (capacities l under) n)
-
-  share-is : (i : ℕ) → pick (ltb i x) (b + 1) b ≡ pick (ltb i (extra (capacities l under) n)) (share (capacities l under) n + 1) (share (capacities l under) n)
-  share-is i = rw (x-is, b-is)
-
   -- Child i is ready where this node and this record are reached.
-  kid : (o′ : List ℕ) (i m next row : ℕ) → length o′ ≡ length o → m ≡ pick (ltb i x) (b + 1) b
-      → next + subtreeNodes l under m ≤ j + sumOf (subtreeNodes l under) (twoSizes (k + 1) x (b + 1) b) → row + m ≤ r + n
-      → Ready l most wide (length recs) (length o′) under m next row
-  kid o′ i m next row same is at rest =
-      rw same (child-ready l most wide (length recs) (length o) under n j r ready i m next row (is ∙ share-is i) (rw all-is at at) rest)
+  kid : {I′ : ℕ} (i m next row : ℕ) → I′ ≡ I → m ≡ pick (ltb i x) (b + 1) b → next + subtreeNodes l under m ≤ j + sumOf (subtreeNodes l under) all
+      → row + m ≤ r + n → Ready l most wide R I′ under m next row
+  kid i m next row same is at rest =
+      rw same (child-ready ready i m next row (rw (x-is, b-is) at is) (rw all-is at at) rest)
 
-  -- The first child, and the numbers after it.
+  -- The first child.
   module _ {m : ℕ} (e : m ≡ pick (ltb 0 x) (b + 1) b) where
-    first-left : twoSizes (k + 1) x (b + 1) b ≡ m ∷ from (k + 1) x (b + 1) b 1
+    first-left : all ≡ m ∷ from (k + 1) x (b + 1) b 1
     first-left = rw e (from-first k x (b + 1) b)
 
-    first-rows : r + m + 1 ≤ r + n + 1
-    unfolding withOne
-    first-rows = let q = rw first-left at rows-all in omega (arith, q)
+    pub first-ready : Ready l most wide R I under m j r
+    unfolding sumOf withOne
+    first-ready =
+        kid 0 m j r refl e (rw first-left (omega arith)) (let q = rw first-left at rows-all in omega (arith, q))
 
-    first-nodes : j + subtreeNodes l under m ≤ j + sumOf (subtreeNodes l under) (twoSizes (k + 1) x (b + 1) b)
+-- The loop over the children from child 1 on. It began with the image o₁, when child 0 had returned `large`; before child i the children have
+-- come to `total` records and `nodes` nodes, and the one before it to `small`.
+pub record KidsLeft (l : Layout) (most wide recs o₁ : List ℕ) (depth n j r k b x : ℕ) (large : Child) (o : List ℕ) (small : Child) (total nodes i : ℕ) : Type 0 where
+  pub dealt : Dealt l most wide (length recs) (length o₁) depth n j r k b x
+  pub of-first : ChildOf (depth - 1) (subtree l (depth - 1) (pick (ltb 0 x) (b + 1) b)) large
+  pub of-last : ChildOf (depth - 1) (subtree l (depth - 1) (pick (ltb (i - 1) x) (b + 1) b)) small
+  pub within : (1 ≤ i) × (i ≤ k + 1)
+  pub reached : nodes + sumOf (subtreeNodes l (depth - 1)) (from (k + 1) x (b + 1) b i) ≡ sumOf (subtreeNodes l (depth - 1)) (twoSizes (k + 1) x (b + 1) b)
+  pub rows : total + i + withOne (from (k + 1) x (b + 1) b i) ≡ n + 1
+  pub long : length o ≡ length o₁
+  pub left : stored o ((j + nodes) * l .«node_size») (images l recs (depth - 1) (from (k + 1) x (b + 1) b i) (j + nodes) (r + total + i))
+      ≡ stored o₁ ((j + large .nodes) * l .«node_size») (images l recs (depth - 1) (from (k + 1) x (b + 1) b 1) (j + large .nodes) (r + large .total + 1))
+
+-- A child in the numbers that its writing returned.
+child-is : {d : ℕ} {t : Tree d} {x : Child} → ChildOf d t x → x ≡ record { records = count d t; total = size d t; nodes = nodes d t }
+child-is y = λ i. record { records = y .records i; total = y .total i; nodes = y .nodes i }
+
+some-nodes : {d : ℕ} {t : Tree d} {x : Child} → ChildOf d t x → 0 < x .nodes
+unfolding nodes
+some-nodes y = omega (arith, y .nodes)
+
+abbrev innerAt : ℕ → ℕ → ℕ → Child → Child → ℕ → ℕ → ℕ → Inner
+innerAt k b x large small t j r =
+    record { kept = k; base = b; extra = x; large = large; small = small; «total_size» = t; «first_node» = j; «first_row» = r }
+
+-- Before the loop: what is dealt, and the first child.
+module _ (l : Layout) (most wide recs : List ℕ) (depth n j r k b x : ℕ) (o : List ℕ)
+    (given : Ready l most wide (length recs) (length o) depth n j r) (pos : 1 ≤ depth) (kept : k ≡ taken (getD most (depth - 1) 0) n)
+    (base : b ≡ share (getD most (depth - 1) 0) n) (more : x ≡ extra (getD most (depth - 1) 0) n) where
+  now-dealt : Dealt l most wide (length recs) (length o) depth n j r k b x
+  now-dealt = record { given = given; pos = pos; kept = kept; base = base; extra = more }
+
+  pub share-few : b < 2 ^ 32
+  share-few = base-few now-dealt
+
+  module _ (m : ℕ) (e : m ≡ pick (ltb 0 x) (b + 1) b) where
+    pub first-asked : Ready l most wide (length recs) (length o) (depth - 1) m j r
+    first-asked = first-ready now-dealt e
+
+    pub loop-start : (o₁ : List ℕ) (large : Child) → length o₁ ≡ length o → SubtreeWritten l recs o o₁ (depth - 1) m j r large
+        → KidsLeft l most wide recs o₁ depth n j r k b x large o₁ large (large .total) (large .nodes) 1
+    unfolding sumOf withOne
+    loop-start o₁ large same wrote =
+        let many = wrote .child .total ∙ planned-records (capacities l) (depth - 1) m (first-asked .thick) in
+        let rows = rw (first-left now-dealt e) at (rows-all now-dealt) in
+        let child = subst (λ z. ChildOf (depth - 1) (subtree l (depth - 1) z) large) e (wrote .child) in
+        record {
+          dealt = rw same now-dealt;
+          of-first = child;
+          of-last = child;
+          within = (omega arith, omega arith);
+          reached = rw (first-left now-dealt e) (omega (arith, wrote .child .nodes));
+          rows = omega (arith, rows, many);
+          long = refl;
+          left = refl;
+        }
+
+module _ {l : Layout} {most wide recs : List ℕ} {depth n j r k b x : ℕ} {o₁ o : List ℕ} {large small : Child} {total many i : ℕ}
+    (inv : KidsLeft l most wide recs o₁ depth n j r k b x large o small total many i) where
+  abbrev d : ℕ
+  d = depth - 1
+
+  abbrev rest : ℕ → List ℕ
+  rest = from (k + 1) x (b + 1) b
+
+  -- A number among those of the subtree's nodes, or the one after them.
+  node-fits : (y : ℕ) → y ≤ j + subtreeNodes l (suc d) n → Fits w64 y
+  node-fits y within =
+      let node = ready (inv .dealt) in
+      number-fits (l .start) j (subtreeNodes l (suc d) n) (l .«node_size») (node-pos node) (node .short) y within
+
+  pub place-fits : Fits w64 (j + many)
+  place-fits = node-fits (j + many) (omega (arith, inv .reached, nodes-all (inv .dealt)))
+
+  -- A turn: child i, and the numbers and the image after it.
+  module _ (h : i ≤ k) {m : ℕ} (e : m ≡ pick (ltb i x) (b + 1) b) where
+    kid-left : rest i ≡ m ∷ rest (i + 1)
+    kid-left = rw e (from-step (k + 1) x (b + 1) b i (omega arith))
+
+    kid-nodes : many + subtreeNodes l d m + sumOf (subtreeNodes l d) (rest (i + 1)) ≡ sumOf (subtreeNodes l d) (twoSizes (k + 1) x (b + 1) b)
     unfolding sumOf
-    first-nodes = rw first-left (omega arith)
+    kid-nodes = let q = rw kid-left at (inv .reached) in omega (arith, q)
 
-    pub first-ready : Ready l most wide (length recs) (length o) under m j r
-    first-ready = kid o 0 m j r refl e first-nodes (omega (arith, first-rows))
+    kid-rows : total + i + m + 1 + withOne (rest (i + 1)) ≡ n + 1
+    unfolding withOne
+    kid-rows = let q = rw kid-left at (inv .rows) in omega (arith, q)
 
-    module _ (long : length recs * 1 < 2 ^ 63) where
-      pub first-row-fits : Fits w64 (r + m)
-      first-row-fits = omega (arith, first-rows, rows-fit long)
+    pub kid-ready : Ready l most wide (length recs) (length o) d m (j + many) (r + total + i)
+    kid-ready = kid (inv .dealt) i m (j + many) (r + total + i) (inv .long) e (omega (arith, kid-nodes)) (omega (arith, kid-rows))
 
-      pub first-next-fits : Fits w64 (r + m + 1)
-      first-next-fits = omega (arith, first-rows, rows-fit long)
+    module _ {o′ : List ℕ} {z : Child} (wrote : SubtreeWritten l recs o o′ d m (j + many) (r + total + i) z) where
+      z-total : z .total ≡ m
+      z-total = wrote .child .total ∙ planned-records (capacities l) d m (kid-ready .thick)
 
-  -- The first child is written: its records, the node after it, and the image then.
-  pub record Begun (o₁ : List ℕ) (first next₁ : ℕ) : Type 0 where
-    pub same : length o₁ ≡ length o
-    pub share : first ≡ pick (ltb 0 x) (b + 1) b
-    pub next : next₁ ≡ j + subtreeNodes l under first
-    pub image : o₁ ≡ stored o (j * l .«node_size») (subtreeImage l recs under first j r)
+      pub total-fits : Fits w64 (total + z .total)
+      total-fits = omega (arith, z-total, kid-rows, inv .dealt .given .few)
 
-  -- The loop over the children after it.
-  module _ {o₁ : List ℕ} {first next₁ : ℕ} (begun : Begun o₁ first next₁) where
-    abbrev Left : List ℕ → ℕ → ℕ → ℕ → ℕ → Type 0
-    Left = KidsLeft l recs o₁ next₁ (r + first + 1) under j r k b x
+      pub nodes-fit : Fits w64 (many + z .nodes)
+      nodes-fit = node-fits (many + z .nodes) (omega (arith, wrote .child .nodes, kid-nodes, nodes-all (inv .dealt)))
 
-    pub loop-start : Left o₁ next₁ (r + first + 1) 0 1
-    loop-start = kids-start l recs o₁ next₁ (r + first + 1) under j r k b x first (begun .share) (begun .next) refl
-
-    module _ {o′ : List ℕ} {next row last i m : ℕ} (inv : Left o′ next row last i) (h : i ≤ k) (e : m ≡ pick (ltb i x) (b + 1) b) where
-      kid-row : row + m ≤ r + n
-      kid-row = omega (arith, kid-rows l recs o₁ next₁ (r + first + 1) under j r k b x o′ next row last i inv h m e, rows-all)
-
-      kid-place : next + subtreeNodes l under m ≤ j + sumOf (subtreeNodes l under) (twoSizes (k + 1) x (b + 1) b)
-      kid-place = omega (arith, kid-nodes l recs o₁ next₁ (r + first + 1) under j r k b x o′ next row last i inv h m e)
-
-      pub kid-ready : Ready l most wide (length recs) (length o′) under m next row
-      kid-ready = kid o′ i m next row (inv .long ∙ begun .same) e kid-place kid-row
-
-      module _ (long : length recs * 1 < 2 ^ 63) where
-        pub kid-row-fits : Fits w64 (row + m)
-        kid-row-fits = omega (arith, kid-row, rows-fit long)
-
-        pub kid-next-fits : Fits w64 (row + m + 1)
-        kid-next-fits = omega (arith, kid-row, rows-fit long)
-
-      pub loop-turn : (o″ : List ℕ) (end : ℕ) → o″ ≡ stored o′ (next * l .«node_size») (subtreeImage l recs under m next row)
-          → end ≡ next + subtreeNodes l under m → Left o″ end (row + m + 1) (end - next) (i + 1)
-      loop-turn o″ end eo ee =
-          kids-turn l recs o₁ next₁ (r + first + 1) under j r k b x o′ next row last i inv h m e o″ end
-          (omega (arith, kid-ready .room))
-          (length-subtree l most wide recs (length o′) under m next row kid-ready)
-          (kid-ready .room) eo ee
-
-      pub end-after : (end : ℕ) → end ≡ next + subtreeNodes l under m → next ≤ end
-      end-after end ee = omega arith
-
-    -- The root, once the last child is written.
-    pub record Ended (o′ : List ℕ) (next row last i : ℕ) (y : Inner) : Type 0 where
-      pub inv : Left o′ next row last i
-      pub past : k < i
-      pub large : Made (getD most (under - 1) 0) under first (next₁ - j) (y .large)
-      pub small : Made (getD most (under - 1) 0) under b last (y .small)
-      pub numbers : Root k b x j r (getD wide under 0) y
-
-    module _ {o′ : List ℕ} {next row last i : ℕ} {y : Inner} (all : Ended o′ next row last i y) where
-      inv : Left o′ next row last i
-      inv = all .inv
-
-      is : Root k b x j r (getD wide under 0) y
-      is = all .numbers
-
-      ended : (o′ ≡ stored o₁ (next₁ * l .«node_size») (images l recs under (from (k + 1) x (b + 1) b 1) next₁ (r + first + 1)))
-          × (next ≡ j + sumOf (subtreeNodes l under) (twoSizes (k + 1) x (b + 1) b))
-          × (1 ≤ k → last ≡ subtreeNodes l under b)
-      ended = kids-end l recs o₁ next₁ (r + first + 1) under j r k b x o′ next row last i inv (all .past) extra-few
-
-      made : (m size : ℕ) (z : Child) → size ≡ subtreeNodes l under m → Made (getD most (under - 1) 0) under m size z → z ≡ childAt l recs under m
-      made m size z q g = child-made l most recs under m size z (λ u s. given .caps u (omega arith)) q g
-
-      large-is : y .large ≡ childAt l recs under first
-      large-is = made first (next₁ - j) (y .large) (omega (arith, begun .next)) (all .large)
-
-      small-is : y .small ≡ childAt l recs under b
-      small-is = made b last (y .small) (ended .2 some-kept) (all .small)
-
-      numbers : Numbers l recs under n (ready .thick) y
-      numbers =
+      pub loop-turn : KidsLeft l most wide recs o₁ depth n j r k b x large o′ z (total + z .total) (many + z .nodes) (i + 1)
+      unfolding images
+      loop-turn =
+          let long = length-subtree recs kid-ready in
+          let next : j + (many + z .nodes) ≡ j + many + subtreeNodes l d m = omega (arith, wrote .child .nodes) in
+          let row : r + (total + z .total) + (i + 1) ≡ r + total + i + m + 1 = omega (arith, z-total) in
+          let before : i + 1 - 1 ≡ i = omega arith in
+          let own = subtreeImage l recs d m (j + many) (r + total + i) in
+          let after = images l recs d (rest (i + 1)) (j + many + subtreeNodes l d m) (r + total + i + m + 1) in
+          let ends : (j + many + subtreeNodes l d m) * l .«node_size» ≡ (j + many) * l .«node_size» + length own = rw long (omega arith) in
           record {
-            kept = is .kept ∙ k-is;
-            base = is .base ∙ b-is;
-            extra = is .extra ∙ x-is;
-            large = λ p. let q : first ≡ share (capacities l under) n + 1 = begun .share ∙ (rw (lt-ltb 0 x (rw (is .extra) at p), b-is)) in large-is ∙ ap (childAt l recs under) q;
-            small = small-is ∙ ap (childAt l recs under) b-is;
-            total = is .total ∙ given .widths under lower;
+            dealt = inv .dealt;
+            of-first = inv .of-first;
+            of-last = rw (before, ← e) (wrote .child);
+            within = (omega arith, omega arith);
+            reached = rw (wrote .child .nodes) (omega (arith, kid-nodes));
+            rows = omega (arith, z-total, kid-rows);
+            long = ap length (wrote .image) ∙ length-stored o _ own (rw (← ends) (kid-ready .room)) ∙ inv .long;
+            left =
+                rw (next, row, wrote .image, stored-turn o _ _ own after (omega (arith, ends, kid-ready .room)) ends)
+                (rw kid-left at (inv .left));
           }
 
-      nodes-all : subtreeNodes l (suc under) n ≡ sumOf (subtreeNodes l under) (twoSizes (k + 1) x (b + 1) b) + 1
-      nodes-all = rw all-is (nodes-node l recs under n (ready .thick))
+  -- The root, once the last child is written.
+  module _ (past : k < i) where
+    last-is : i ≡ k + 1
+    last-is = omega (arith, inv .within)
 
-      next-is : next + 1 ≡ j + subtreeNodes l (suc under) n
-      next-is = omega (arith, nodes-all, ended .1)
+    none-left : rest i ≡ []
+    none-left = from-end (k + 1) x (b + 1) b i (omega arith)
 
-      pub root-room : (next + 1) * l .«node_size» ≤ length o′
-      root-room = rw (next-is, inv .long, begun .same) (ready .room)
+    nodes-done : many ≡ sumOf (subtreeNodes l d) (twoSizes (k + 1) x (b + 1) b)
+    unfolding sumOf
+    nodes-done = let q = rw none-left at (inv .reached) in omega (arith, q)
 
-      pub root-next-fits : length o < 2 ^ 64 → Fits w64 (next + 1)
-      root-next-fits s = omega (arith, le-mul-of-pos-right (next + 1) (node-pos l most wide (length recs) (length o) under n j r ready), root-room, inv .long, begun .same)
+    rows-done : total + k ≡ n
+    unfolding withOne
+    rows-done = let q = rw none-left at (inv .rows) in omega (arith, q, last-is)
 
-      pub root-fits : InnerFits l (length recs) y
-      unfolding count
-      root-fits =
-          let bytes = ready .fits .0 .node in
-          let c = plan-count (capacities l) under n in
-          record {
-            size = given .size;
-            few = (rw (is .kept) (omega (arith, kept-small)), rw (is .base) base-few);
-            bytes = rw (is .kept, is .total, given .widths under lower, k-is) (omega (arith, rw c at bytes));
-            rows =
-                le-trans (mul-le-mul-right (l .«record_size») (omega (arith, rows-within l recs under n (ready .thick) y numbers, is .row))) (given .rows);
-            some = (rw large-is (some-nodes l under first), rw small-is (some-nodes l under b));
-            short =
-                let q : y .«first_node» + nodesOfAll (innerChildren y) ≤ j + subtreeNodes l (suc under) n =
-                omega (arith, nodes-are l recs under n (ready .thick) y numbers, nodes-node l recs under n (ready .thick), is .node) in
-                omega (arith, mul-le-mul-right (l .«node_size») q, ready .short);
-          }
+    next-is : j + many + 1 ≡ j + subtreeNodes l (suc d) n
+    next-is = omega (arith, nodes-all (inv .dealt), nodes-done)
 
-      -- The children's images, one after another.
+    pub all-fit : Fits w64 (many + 1)
+    all-fit = node-fits (many + 1) (omega (arith, next-is))
+
+    abbrev inner : Inner
+    inner = innerAt k b x large small (getD wide d 0) j r
+
+    numbers : Numbers l recs d n (thick (ready (inv .dealt))) inner
+    numbers =
+        let before : i - 1 ≡ k = omega (arith, last-is) in
+        let last = rw (before, le-ltb k x (extra-few (inv .dealt)), b-is (inv .dealt)) at (inv .of-last) in
+        record {
+          kept = k-is (inv .dealt);
+          base = b-is (inv .dealt);
+          extra = x-is (inv .dealt);
+          large = λ p. child-is (rw (lt-ltb 0 x p, b-is (inv .dealt)) at (inv .of-first));
+          small = child-is last;
+          total = width-is (inv .dealt);
+        }
+
+    pub root-fits : InnerFits l (length recs) inner
+    unfolding count
+    root-fits =
+        let node = ready (inv .dealt) in
+        let bytes = rw (plan-count (capacities l) d n) at (node .fits .0 .node) in
+        let within : r + withOne (innerShares inner) ≤ r + n = omega (arith, rows-within l recs d n (thick node) inner numbers) in
+        let ends : j + nodesOfAll (innerChildren inner) ≤ j + subtreeNodes l (suc d) n =
+        omega (arith, nodes-are l recs d n (thick node) inner numbers, nodes-below node) in
+        record {
+          size = node .size;
+          few = (omega (arith, kept-small (inv .dealt)), base-few (inv .dealt));
+          bytes = rw (width-is (inv .dealt), k-is (inv .dealt)) (omega (arith, bytes));
+          rows = le-trans (mul-le-mul-right (l .«record_size») within) (node .rows);
+          some = (some-nodes (inv .of-first), some-nodes (inv .of-last));
+          short = omega (arith, mul-le-mul-right (l .«node_size») ends, node .short);
+        }
+
+    pub root-room : (j + many + 1) * l .«node_size» ≤ length o
+    root-room = rw (next-is, inv .long) (ready (inv .dealt) .room)
+
+    -- The children's images, one after another, in the image that the node's writing began with.
+    module _ {o₀ : List ℕ} {m : ℕ} (e : m ≡ pick (ltb 0 x) (b + 1) b) (same : length o₁ ≡ length o₀) (first : SubtreeWritten l recs o₀ o₁ d m j r large) where
       whole : List ℕ
-      whole = images l recs under (twoSizes (k + 1) x (b + 1) b) j r
+      whole = images l recs d (twoSizes (k + 1) x (b + 1) b) j r
 
-      children-done : o′ ≡ stored o (j * l .«node_size») whole
+      place : (j + many) * l .«node_size» ≡ j * l .«node_size» + length whole
+      unfolding whole
+      place =
+          let long = length-images (ready (inv .dealt)) recs refl in
+          rw (all-is (inv .dealt), long, nodes-done, all-is (inv .dealt)) (omega arith)
+
+      children-done : o ≡ stored o₀ (j * l .«node_size») whole
       unfolding images whole
       children-done =
-          let long = length-subtree l most wide recs (length o) under first j r (first-ready (begun .share)) in
-          ended .0
-          ∙ rw (begun .image, stored-turn o (j * l .«node_size») (next₁ * l .«node_size») (subtreeImage l recs under first j r) (images l recs under (from (k + 1) x (b + 1) b 1) next₁ (r + first + 1)) (omega (arith, ready .room)) (rw (long, begun .next) (omega arith)), first-left (begun .share), begun .next)
+          let node = first-ready (inv .dealt) e in
+          let long = length-subtree recs node in
+          let total-is = first .child .total ∙ planned-records (capacities l) d m (node .thick) in
+          let own = subtreeImage l recs d m j r in
+          let after = images l recs d (rest 1) (j + subtreeNodes l d m) (r + m + 1) in
+          let left = rw none-left at (inv .left) in
+          let ends : (j + subtreeNodes l d m) * l .«node_size» ≡ j * l .«node_size» + length own = rw long (omega arith) in
+          sym (stored-nil o ((j + many) * l .«node_size»))
+          ∙ left
+          ∙ rw (first .child .nodes, total-is, first .image, stored-turn o₀ _ _ own after (omega (arith, node .room, same)) ends, first-left (inv .dealt) e)
 
-      length-whole : length whole ≡ sumOf (subtreeNodes l under) (twoSizes (k + 1) x (b + 1) b) * l .«node_size»
+      image-all : subtreeImage l recs (suc d) n j r ≡ whole ++ padded (l .«node_size») (innerBytes l recs inner)
       unfolding whole
-      length-whole = rw all-is (length-images l most wide recs (length o) under n j r ready)
+      image-all = rw (all-is (inv .dealt)) (image-is l recs d n (thick (ready (inv .dealt))) inner numbers)
 
-      image-all : subtreeImage l recs (suc under) n j r ≡ whole ++ padded (l .«node_size») (innerBytes l recs y)
-      unfolding whole
-      image-all = rw (all-is, ← is .node, ← is .row) (image-is l recs under n (ready .thick) y numbers)
-
-      pub root-done : (z : List ℕ) → z ≡ stored o′ (next * l .«node_size») (padded (l .«node_size») (innerBytes l recs y))
-          → (z ≡ stored o (j * l .«node_size») (subtreeImage l recs depth n j r)) × (next + 1 ≡ j + subtreeNodes l depth n)
-      root-done z hz =
-          let place : next * l .«node_size» ≡ j * l .«node_size» + length whole = rw (length-whole, ended .1) (omega arith) in
-          let whole-done : z ≡ stored o (j * l .«node_size») (subtreeImage l recs (suc under) n j r) =
-          rw (hz, children-done, stored-turn o (j * l .«node_size») (next * l .«node_size») whole (padded (l .«node_size») (innerBytes l recs y)) (omega (arith, ready .room)) place, image-all) in
-          (whole-done ∙ ap (λ (d : ℕ). stored o (j * l .«node_size») (subtreeImage l recs d n j r)) (sym deeper), next-is ∙ ap (λ (d : ℕ). j + subtreeNodes l d n) (sym deeper))
-
--- `child_of`
-pub made-leaf : (d m size : ℕ) (below : ℕ) (z : Child) → d ≡ 0 → z .records ≡ m → z .total ≡ m → z .nodes ≡ size → Made below d m size z
-made-leaf d m size below z e hr ht hn = record { records = rw e hr; total = ht; nodes = hn }
-
-pub made-node : (d m size : ℕ) (below : ℕ) (z : Child) → (d ≡ 0 → ⊥) → z .records ≡ taken below m → z .total ≡ m → z .nodes ≡ size → Made below d m size z
-made-node d m size below z e hr ht hn = record { records = rw (ne-eqb d 0 e) hr; total = ht; nodes = hn }
-
--- `write_image`
-module _ (l : Layout) (most wide recs o : List ℕ) (depth n : ℕ) (whole : Whole l most wide (length recs) (length o) depth n) where
-  pub whole-leaf : depth ≡ 0
-      → ((0 + 1) * l .«node_size» ≤ length o) × (10 + n * l .«record_size» ≤ l .«node_size») × ((0 + n) * l .«record_size» ≤ length recs)
-  whole-leaf e = let f = whole .leaf e in (omega (arith, f .0), f .1, omega (arith, f .2))
-
-  pub leaf-written : (z : List ℕ) → depth ≡ 0 → z ≡ stored o (0 * l .«node_size») (padded (l .«node_size») (leafBytes (formAt l) (l .start) recs n 0))
-      → z ≡ stored o 0 (subtreeImage l recs depth n 0 0)
-  unfolding subtreeImage image planTree
-  leaf-written z e h = rw (e, h, zero-mul)
-
-  pub node-written : (z : List ℕ) → z ≡ stored o (0 * l .«node_size») (subtreeImage l recs depth n 0 0) → z ≡ stored o 0 (subtreeImage l recs depth n 0 0)
-  node-written z h = rw (h, zero-mul)
+      pub root-done : {z : List ℕ} → z ≡ stored o ((j + many) * l .«node_size») (padded (l .«node_size») (innerBytes l recs inner))
+          → SubtreeWritten l recs o₀ z depth n j r (record { records = k; total = total + k; nodes = many + 1 })
+      root-done {z} written =
+          let node = ready (inv .dealt) in
+          let own = padded (l .«node_size») (innerBytes l recs inner) in
+          let room : j * l .«node_size» ≤ length o₀ = omega (arith, node .room, same) in
+          subst (λ (u : ℕ). SubtreeWritten l recs o₀ z u n j r (record { records = k; total = total + k; nodes = many + 1 })) (sym (deeper (inv .dealt)))
+          (record {
+            image = rw (written, children-done, stored-turn o₀ _ _ whole own room place, image-all);
+            child =
+                record {
+                  records = k-is (inv .dealt) ∙ sym (plan-count (capacities l) d n);
+                  total = rows-done ∙ sym (plan-size (capacities l) (suc d) n (thick node));
+                  nodes = omega (arith, next-is);
+                };
+          })

@@ -3,12 +3,11 @@ use mathlib.Core.Path.{_≡_}
 use mathlib.Core.Bool.{false}
 use mathlib.Core.List.{List}
 use Prim.Native.Nat.{ℕ, _+_, _*_, _^_, _≤_, _<_}
-use lib.Dec.{eqb}
 use lib.ListN.{getD}
-use Rattle.fields.specs.Numbers.{pick}
+use Rattle.fields.specs.Places.{stored}
 use Rattle.node_info.specs.Capacity.{subtreeCapacity, totalWidth}
-use Rattle.plan.specs.Tree.{Tree, nodes}
-use Rattle.plan.specs.Planned.{taken, planTree, thin}
+use Rattle.plan.specs.Tree.{Tree, count, size, nodes}
+use Rattle.plan.specs.Planned.{planTree, thin}
 use Rattle.plan.proofs.Trees.{Everywhere}
 use Rattle.format.specs.Bytes.{image}
 use Rattle.format.proofs.Lengths.{Fit}
@@ -24,33 +23,33 @@ capacities l = subtreeCapacity (l .«node_size») (l .«record_size») (l .«off
 abbrev pub subtree : Layout → (d : ℕ) → ℕ → Tree d
 subtree l d n = planTree (capacities l) d n
 
-unfoldable pub subtreeNodes : Layout → ℕ → ℕ → ℕ
+abbrev pub subtreeNodes : Layout → ℕ → ℕ → ℕ
 subtreeNodes l d n = nodes d (subtree l d n)
 
 unfoldable pub subtreeImage : Layout → List ℕ → ℕ → ℕ → ℕ → ℕ → List ℕ
 subtreeImage l recs d n j r = image (formAt l) (l .start) recs d (subtree l d n) j r
 
--- A subtree that can be written: the table's entries are those of its levels, it is not too thin, its nodes fit, its records are in the list,
+-- A subtree that can be written: the table's entries are those of its levels, it is a leaf or not too thin, its nodes fit, its records are in the list,
 -- its nodes in the image, and its addresses below 2^64.
 pub record Ready (l : Layout) (most wide : List ℕ) (records image d n j r : ℕ) : Type 0 where
   pub low : d ≤ 32
   pub size : 0 < l .«record_size»
   pub caps : (u : ℕ) → u < d → getD most u 0 ≡ capacities l u
   pub widths : (u : ℕ) → u < d → getD wide u 0 ≡ totalWidth (l .«node_size») (l .«record_size») (l .«offset_size») u
-  pub few : n < 2 ^ 24
-  pub thick : thin (capacities l) d n ≡ false
+  pub few : r + n < 2 ^ 24
+  pub thick : 1 ≤ d → thin (capacities l) d n ≡ false
   pub fits : Everywhere (Fit (formAt l)) d (subtree l d n)
   pub rows : (r + n) * l .«record_size» ≤ records
   pub room : (j + subtreeNodes l d n) * l .«node_size» ≤ image
   pub short : l .start + (j + subtreeNodes l d n) * l .«node_size» < 2 ^ 64
 
--- What `child_of` gives of a child of level d with m records and this many nodes.
-pub record Made (below d m size : ℕ) (z : Child) : Type 0 where
-  pub records : z .records ≡ pick (eqb d 0) m (taken below m)
-  pub total : z .total ≡ m
-  pub nodes : z .nodes ≡ size
+-- A tree in numbers, as its writing returns it: the root's records, all records, and the nodes.
+pub record ChildOf (d : ℕ) (t : Tree d) (x : Child) : Type 0 where
+  pub records : x .records ≡ count d t
+  pub total : x .total ≡ size d t
+  pub nodes : x .nodes ≡ nodes d t
 
--- A whole tree that can be written: a leaf that fits, or a subtree that is ready.
-pub record Whole (l : Layout) (most wide : List ℕ) (records image d n : ℕ) : Type 0 where
-  pub leaf : d ≡ 0 → (l .«node_size» ≤ image) × (10 + n * l .«record_size» ≤ l .«node_size») × (n * l .«record_size» ≤ records)
-  pub node : (d ≡ 0 → ⊥) → Ready l most wide records image d n 0 0
+-- What the writing of a subtree leaves of an image, and returns.
+pub record SubtreeWritten (l : Layout) (recs entry exit : List ℕ) (d n j r : ℕ) (x : Child) : Type 0 where
+  pub image : exit ≡ stored entry (j * l .«node_size») (subtreeImage l recs d n j r)
+  pub child : ChildOf d (subtree l d n) x

@@ -29,7 +29,7 @@ fn layout_of(request: Request, count_size: u8) -> Layout
     }
 }
 
-// Writes an accepted tree: its nodes, and then its header.
+// Writes an accepted tree: its nodes, and then its header, of what the root came to.
 fn write_planned(
     request: Request,
     plan: BTreeV2Plan,
@@ -46,15 +46,13 @@ fn write_planned(
     let wide = info.cum_max_nrec_size;
     let depth = plan.depth as usize;
     let n = request.record_count as usize;
-    let nodes = plan.nodes as usize;
-    subtree::write_image(image, layout, records, &most, &wide, depth, n);
-    let root = subtree::child_of(&most, depth, n, nodes);
+    let root = subtree::write_image(image, layout, records, &most, &wide, depth, n);
     frame::write_header(
         header,
         layout,
         request.length_size as usize,
         plan.depth as u64,
-        node::node_address(layout, nodes - 1),
+        node::node_address(layout, root.nodes - 1),
         root.records,
         root.total,
     );
