@@ -12,7 +12,7 @@ use Rattle.fields.specs.Numbers.{fieldSize}
 use Rattle.fields.proofs.Numbers.{pow-256}
 use Rattle.refusal.specs.Answer.{Answer, accepted, refused, orElse}
 use Rattle.plan.specs.Tree.{nodes}
-use Rattle.plan.specs.Planned.{planChecks}
+use Rattle.plan.specs.Planned.{planAnswer}
 use Rattle.format.specs.Bytes.{address}
 use Rattle.format.specs.Writing.{Request, onAccepted, formOf, nodesOf, rootOf, writeAnswer, written}
 
@@ -21,7 +21,7 @@ pub record Accepts (q : Request) (recs : List ℕ) : Type 0 where
   pub figures : List ℕ
   pub offset : fieldSize (q .ow) ≡ true
   pub lengths : fieldSize (q .lw) ≡ true
-  pub plan : planChecks (q .n) (q .rs) (q .ns) (q .ow) ≡ accepted figures
+  pub plan : planAnswer (q .n) (q .rs) (q .ns) (q .ow) ≡ accepted figures
   pub records : length recs ≡ q .n * q .rs
   pub count : q .n ≤ 2 ^ (8 * q .lw) - 1
   pub end : q .start + nodesOf q * q .ns ≤ 2 ^ (8 * q .ow) - 1
@@ -43,12 +43,12 @@ pub record Roomy (q : Request) (hdr img : List ℕ) : Type 0 where
   pub image : nodesOf q * q .ns ≤ length img
 
 passes : (q : Request) (recs hdr img figures : List ℕ) → written q recs hdr img ≡ accepted figures
-    → Accepts q recs × Roomy q hdr img × (planChecks (q .n) (q .rs) (q .ns) (q .ow) ≡ accepted figures)
+    → Accepts q recs × Roomy q hdr img × (planAnswer (q .n) (q .rs) (q .ns) (q .ow) ≡ accepted figures)
 unfolding written writeAnswer
 passes q recs hdr img figures e =
     let a = held-test (fieldSize (q .ow)) _ _ _ _ e in
     let b = held-test (fieldSize (q .lw)) _ _ _ _ (a .1) in
-    let p = go-on (planChecks (q .n) (q .rs) (q .ns) (q .ow)) _ _ (b .1) in
+    let p = go-on (planAnswer (q .n) (q .rs) (q .ns) (q .ow)) _ _ (b .1) in
     let r = held-test (eqb (length recs) (q .n * q .rs)) _ _ _ _ (p .1) in
     let c = held-test (leb (q .n) (2 ^ (8 * q .lw) - 1)) _ _ _ _ (r .1) in
     let x = held-test (leb (q .start + nodesOf q * q .ns) (2 ^ (8 * q .ow) - 1)) _ _ _ _ (c .1) in
@@ -75,7 +75,7 @@ roomy q recs hdr img figures e = passes q recs hdr img figures e .1
 
 -- Its figures are the plan's.
 pub plan-accepted : (q : Request) (recs hdr img figures : List ℕ) → written q recs hdr img ≡ accepted figures
-    → planChecks (q .n) (q .rs) (q .ns) (q .ow) ≡ accepted figures
+    → planAnswer (q .n) (q .rs) (q .ns) (q .ow) ≡ accepted figures
 plan-accepted q recs hdr img figures e = passes q recs hdr img figures e .2
 
 -- A number up to 2^(8 w) - 1 fits w bytes.

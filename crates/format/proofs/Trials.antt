@@ -11,7 +11,7 @@ use Rattle.fields.specs.Places.{stored}
 use Rattle.refusal.specs.Answer.{cells}
 use Rattle.node_info.specs.Capacity.{leafCapacity, countWidth, pointerSize, internalCapacity, subtreeCapacity, totalWidth, nodeCapacity, depthFrom, depthFor}
 use Rattle.plan.specs.Tree.{sumKids, between, count, size, below, nodes, leaves}
-use Rattle.plan.specs.Planned.{taken, dealt, children, kidsOf, planTree, anyOf, thin, planDepth, planned, planFigures, planChecks}
+use Rattle.plan.specs.Planned.{taken, dealt, children, kidsOf, planTree, anyOf, thin, planDepth, planned, planFigures, planAnswer}
 use Rattle.format.specs.Bytes.{summed, padded, pointerBytes, address, rows, leafBytes, pointer, pointers, ownRows, internalBytes, kidsImage, image, headerBytes}
 use Rattle.format.specs.Writing.{over, Request, formOf, nodesOf, imageOf, rootOf, rootRecordsOf, headerOf, writeAnswer, written, headerExit, imageExit}
 use Rattle.format.specs.Walk.{putRecord, putRecords, pointerWidth, pointerPlace, childAddress, childRecords, leafRun, childRun, innerRun, childrenRun, nodeRun}
@@ -223,5 +223,5 @@ disagreeing i [] = []
 disagreeing i (t ∷ ts) = let rest = disagreeing (i + 1) ts in pick (same (t .found) (t .due)) rest (i ∷ rest)
 
 agree : disagreeing 0 (writes ++ (reads ++ collects)) ≡ []
-unfolding rotated mixLine mixed finalLine finalMixed started word blockAdded ended blocks lookup3 le unle num leastFrom width fieldSize stored cells leafCapacity countWidth pointerSize internalCapacity subtreeCapacity totalWidth nodeCapacity depthFrom depthFor sumKids between count size below nodes leaves taken dealt children kidsOf planTree anyOf thin planDepth planned planFigures planChecks summed padded pointerBytes address rows leafBytes pointer pointers ownRows internalBytes kidsImage image headerBytes over formOf nodesOf imageOf rootOf rootRecordsOf headerOf writeAnswer written headerExit imageExit putRecord putRecords pointerWidth pointerPlace childAddress childRecords leafRun childRun innerRun childrenRun nodeRun same checksumTest headerAt parsed leafTest internalTest collectTests sourceOf collected runCells dump dumps rampFrom ramp lent writing summing refusing reading collecting request header threeHeader threeImage fourHeader fourImage eightHeader eightImage eightFile twoHeader twoImage noneHeader noneImage writes reads collects disagreeing
+unfolding rotated mixLine mixed finalLine finalMixed started word blockAdded ended blocks lookup3 le unle num leastFrom width fieldSize stored cells leafCapacity countWidth pointerSize internalCapacity subtreeCapacity totalWidth nodeCapacity depthFrom depthFor sumKids between count size below nodes leaves taken dealt children kidsOf planTree anyOf thin planDepth planned planFigures planAnswer summed padded pointerBytes address rows leafBytes pointer pointers ownRows internalBytes kidsImage image headerBytes over formOf nodesOf imageOf rootOf rootRecordsOf headerOf writeAnswer written headerExit imageExit putRecord putRecords pointerWidth pointerPlace childAddress childRecords leafRun childRun innerRun childrenRun nodeRun same checksumTest headerAt parsed leafTest internalTest collectTests sourceOf collected runCells dump dumps rampFrom ramp lent writing summing refusing reading collecting request header threeHeader threeImage fourHeader fourImage eightHeader eightImage eightFile twoHeader twoImage noneHeader noneImage writes reads collects disagreeing
 agree = refl

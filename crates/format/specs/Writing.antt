@@ -7,7 +7,7 @@ use Rattle.fields.specs.Numbers.{fieldSize}
 use Rattle.refusal.specs.Answer.{Answer, accepted, refused, orElse}
 use Rattle.node_info.specs.Capacity.{countWidth, totalWidth}
 use Rattle.plan.specs.Tree.{count, below, nodes}
-use Rattle.plan.specs.Planned.{planDepth, planned, planChecks}
+use Rattle.plan.specs.Planned.{planDepth, planned, planAnswer}
 use Rattle.format.specs.Bytes.{Form, address, image, headerBytes}
 
 -- What goes on where an answer accepts.
@@ -72,13 +72,13 @@ module _ (q : Request) where
   writeAnswer recsLength headerLength imageLength =
       orElse (fieldSize (q .ow)) (refused 4 (q .ow ∷ []))
       (orElse (fieldSize (q .lw)) (refused 5 (q .lw ∷ []))
-      (onAccepted (planChecks (q .n) (q .rs) (q .ns) (q .ow))
+      (onAccepted (planAnswer (q .n) (q .rs) (q .ns) (q .ow))
       (orElse (eqb recsLength (q .n * q .rs)) (refused 12 (recsLength ∷ []))
       (orElse (leb (q .n) (2 ^ (8 * q .lw) - 1)) (refused 13 (q .n ∷ []))
       (orElse (leb (q .start + nodesOf * q .ns) (2 ^ (8 * q .ow) - 1)) (refused 14 (q .start ∷ []))
       (orElse (leb (22 + q .ow + q .lw) headerLength) (refused 15 (headerLength ∷ []))
       (orElse (leb (nodesOf * q .ns) imageLength) (refused 15 (imageLength ∷ []))
-      (planChecks (q .n) (q .rs) (q .ns) (q .ow)))))))))
+      (planAnswer (q .n) (q .rs) (q .ns) (q .ow)))))))))
 
   -- The header buffer and the image buffer at exit.
   module _ (recs headerEntry imageEntry : List ℕ) where

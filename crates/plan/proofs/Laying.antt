@@ -16,9 +16,9 @@ use Rattle.node_info.proofs.Columns.{subtree-entry}
 use Rattle.node_info.proofs.Depth.{depth-le, depth-small}
 use Rattle.node_info.specs.Table.{infoAt, noInfo}
 use Rattle.node_info.specs.declared.NodeInfo.{NodeInfo}
-use Rattle.plan.specs.Steps.{Passed, Laid, levelOf, Countable, Counted}
-use Rattle.plan.specs.Planned.{thin, planDepth, planned, planFigures, planChecks, planAnswer}
-use Rattle.plan.proofs.Checks.{checks-10, checks-11, checks-passed}
+use Rattle.plan.specs.Steps.{Passed, levelOf, Countable, Counted}
+use Rattle.plan.specs.Planned.{thin, planDepth, planned, planFigures, planAnswer, Laid}
+use Rattle.plan.proofs.Checks.{checks-4, checks-7-low, checks-7-high, checks-8, checks-9, checks-10, checks-11, checks-passed}
 use Rattle.plan.proofs.Counting.{thin-test}
 use Rattle.plan.proofs.Depths.{depth-levels}
 use Rattle.plan.proofs.Plans.{plan-agree, thin-agree}
@@ -34,18 +34,44 @@ thin-some d n ne h = rw (ne-eqb n 0 ne, thin-test d n h)
 
 -- A refusal goes out with no table.
 pub refused-out : (n rs ns ow k : ℕ) (values : List ℕ) (a : Answer) (i : NodeInfo)
-    → a ≡ refused k values → i ≡ noInfo → planChecks n rs ns ow ≡ refused k values → Laid n rs ns ow a i
-refused-out n rs ns ow k values a i ha hi hp = rw hp (ha, hi)
+    → (a ≡ refused k values) × (i ≡ noInfo) → planAnswer n rs ns ow ≡ refused k values → Laid n rs ns ow a i
+refused-out n rs ns ow k values a i out hp = record { answered = rw hp (out .0); table = rw hp (out .1) }
+
+-- The refusals of `lay_out` itself, and what has passed them.
+module _ (n rs ns ow : ℕ) (b : Bool) (tested : b ≡ fieldSize ow) where
+  pub laid-4 : (a : Answer) (i : NodeInfo) → not b ≡ true → (a ≡ refused 4 (ow ∷ [])) × (i ≡ noInfo) → Laid n rs ns ow a i
+  laid-4 a i e out = refused-out n rs ns ow 4 (ow ∷ []) a i out (checks-4 n rs ns ow (sym tested ∙ not-true b e))
+
+  module _ (four : not b ≡ false) where
+    offset : fieldSize ow ≡ true
+    offset = sym tested ∙ not-false b four
+
+    pub laid-7-low : (a : Answer) (i : NodeInfo) → ns < 10 → (a ≡ refused 7 (ns ∷ [])) × (i ≡ noInfo) → Laid n rs ns ow a i
+    laid-7-low a i h out = refused-out n rs ns ow 7 (ns ∷ []) a i out (checks-7-low n rs ns ow offset h)
+
+    pub laid-7-high : (a : Answer) (i : NodeInfo) → 65536 < ns → (a ≡ refused 7 (ns ∷ [])) × (i ≡ noInfo) → Laid n rs ns ow a i
+    laid-7-high a i h out = refused-out n rs ns ow 7 (ns ∷ []) a i out (checks-7-high n rs ns ow offset h)
+
+    module _ (low : 10 ≤ ns) (high : ns ≤ 65536) where
+      pub laid-8 : (a : Answer) (i : NodeInfo) → rs ≡ 0 → (a ≡ refused 8 []) × (i ≡ noInfo) → Laid n rs ns ow a i
+      laid-8 a i e out = refused-out n rs ns ow 8 [] a i out (checks-8 n rs ns ow offset low high e)
+
+      module _ (some : rs ≡ 0 → ⊥) where
+        pub laid-9 : (a : Answer) (i : NodeInfo) → 16777215 < n → (a ≡ refused 9 (n ∷ [])) × (i ≡ noInfo) → Laid n rs ns ow a i
+        laid-9 a i h out = refused-out n rs ns ow 9 (n ∷ []) a i out (checks-9 n rs ns ow offset low high some h)
+
+        pub passed-all : n ≤ 16777215 → Passed n rs ns ow
+        passed-all few = record { offset = offset; low = low; high = high; some = omega arith; few = few }
 
 either : (a b : Bool) → (a || not b) ≡ not (not a && b)
 either true b = refl
 either false b = refl
 
-module _ (n rs ns ow : ℕ) (pass : Passed n rs ns) (d : ℕ)
+module _ (n rs ns ow : ℕ) (pass : Passed n rs ns ow) (d : ℕ)
     (deep : d ≡ depthFor ns rs ow n) (b : Bool) (hb : b ≡ leb n (subtreeCapacity ns rs ow d)) where
-  pub laid-10 : (a : Answer) (i : NodeInfo) → not b ≡ true → a ≡ refused 10 (d ∷ []) → i ≡ noInfo → Laid n rs ns ow a i
-  laid-10 a i e ha hi =
-      refused-out n rs ns ow 10 (d ∷ []) a i ha hi (checks-10 n rs ns ow pass d deep (sym hb ∙ not-true b e))
+  pub laid-10 : (a : Answer) (i : NodeInfo) → not b ≡ true → (a ≡ refused 10 (d ∷ [])) × (i ≡ noInfo) → Laid n rs ns ow a i
+  laid-10 a i e out =
+      refused-out n rs ns ow 10 (d ∷ []) a i out (checks-10 n rs ns ow pass d deep (sym hb ∙ not-true b e))
 
   module _ (eb : not b ≡ false) where
     enough : leb n (subtreeCapacity ns rs ow d) ≡ true
@@ -64,12 +90,12 @@ module _ (n rs ns ow : ℕ) (pass : Passed n rs ns) (d : ℕ)
       passing : (eqb n 0 || not (thin (subtreeCapacity ns rs ow) d n)) ≡ not t
       passing = rw (thin-root (subtreeCapacity ns rs ow) (nodeCapacity ns rs ow) d n levels holds, either, ← ht)
 
-      pub laid-11 : (a : Answer) (i : NodeInfo) → t ≡ true → a ≡ refused 11 [] → i ≡ noInfo → Laid n rs ns ow a i
-      laid-11 a i e ha hi =
-          refused-out n rs ns ow 11 [] a i ha hi (checks-11 n rs ns ow pass d deep enough (passing ∙ ap not e))
+      pub laid-11 : (a : Answer) (i : NodeInfo) → t ≡ true → (a ≡ refused 11 []) × (i ≡ noInfo) → Laid n rs ns ow a i
+      laid-11 a i e out =
+          refused-out n rs ns ow 11 [] a i out (checks-11 n rs ns ow pass d deep enough (passing ∙ ap not e))
 
       module _ (et : t ≡ false) where
-        passed : planChecks n rs ns ow ≡ accepted (planFigures n rs ns ow)
+        passed : planAnswer n rs ns ow ≡ accepted (planFigures n rs ns ow)
         passed = checks-passed n rs ns ow pass d deep enough (passing ∙ ap not et)
 
         module _ (i : NodeInfo) (hi : i ≡ infoAt ns rs ow d) where
@@ -98,18 +124,8 @@ module _ (n rs ns ow : ℕ) (pass : Passed n rs ns) (d : ℕ)
               let same = plan-agree (levelOf (i .«cum_max_nrec»)) (subtreeCapacity ns rs ow) d n agree in
               let nx = rw (same, deep) at (counted .«nodes») in
               let ny = rw (same, deep) at (counted .«leaves») in
-              rw passed (rw (nx, ny, deep), rw deep at hi)
+              record { answered = rw passed (rw (nx, ny, deep)); table = rw passed (rw deep at hi) }
 
 -- The image's size.
 pub image-fits : (x ns : ℕ) → x < 2 ^ 24 → ns ≤ 65536 → Fits w64 (x * ns)
 image-fits x ns h l = let s : x ≤ 2 ^ 24 = omega arith in omega (arith, mul-le-mul s l)
-
--- The offset size first.
-module _ (n rs ns ow : ℕ) (t : Bool) (ht : t ≡ fieldSize ow) where
-  pub answer-4 : t ≡ false → refused 4 (ow ∷ []) ≡ planAnswer n rs ns ow
-  unfolding planAnswer
-  answer-4 e = rw (← ht, e)
-
-  pub answer-laid : (a : Answer) → t ≡ true → a ≡ planChecks n rs ns ow → a ≡ planAnswer n rs ns ow
-  unfolding planAnswer
-  answer-laid a e h = rw (← ht, e) h

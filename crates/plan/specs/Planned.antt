@@ -1,4 +1,5 @@
 -- The shape of the tree that is written for n records, and the planner's answer: document 01, "Planner" and "Causes and numbers".
+use mathlib.Core.Path.{_≡_}
 use Prim.Native.Nat.{ℕ, zero, suc, _+_, _-_, _*_, _/_, _%_, _^_, max}
 use mathlib.Core.Bool.{Bool, false, not, _||_, _&&_}
 use mathlib.Core.List.{List, [], _∷_, _++_}
@@ -7,7 +8,7 @@ use lib.ListN.{replicate}
 use Rattle.fields.specs.Numbers.{fieldSize}
 use Rattle.refusal.specs.Answer.{Answer, accepted, refused, refusalOf, orElse}
 use Rattle.node_info.specs.Capacity.{subtreeCapacity, depthFor}
-use Rattle.node_info.specs.Table.{noInfo}
+use Rattle.node_info.specs.Table.{infoAt, noInfo}
 use Rattle.node_info.specs.declared.NodeInfo.{NodeInfo}
 use Rattle.plan.specs.Tree.{Kids, last, more, Tree, nodes, leaves}
 use Rattle.plan.specs.declared.BTreeV2Plan.{BTreeV2Plan}
@@ -64,23 +65,25 @@ module _ (n rs ns ow : ℕ) where
   planFigures =
       planDepth ∷ nodes planDepth planned ∷ leaves planDepth planned ∷ nodes planDepth planned * ns ∷ []
 
-  -- Refusals 7 to 11, in this order, and the figures.
-  unfoldable pub planChecks : Answer
-  planChecks =
-      orElse (leb 10 ns && leb ns 65536) (refused 7 (ns ∷ []))
+  -- The planner's answer: the refusals in their order, or the figures.
+  unfoldable pub planAnswer : Answer
+  planAnswer =
+      orElse (fieldSize ow) (refused 4 (ow ∷ []))
+      (orElse (leb 10 ns && leb ns 65536) (refused 7 (ns ∷ []))
       (orElse (ltb 0 rs) (refused 8 [])
       (orElse (leb n 16777215) (refused 9 (n ∷ []))
       (orElse (leb n (subtreeCapacity ns rs ow planDepth)) (refused 10 (planDepth ∷ []))
-      (orElse (eqb n 0 || not (thin (subtreeCapacity ns rs ow) planDepth n)) (refused 11 []) (accepted planFigures)))))
-
-  -- The planner's answer.
-  unfoldable pub planAnswer : Answer
-  planAnswer = orElse (fieldSize ow) (refused 4 (ow ∷ [])) planChecks
+      (orElse (eqb n 0 || not (thin (subtreeCapacity ns rs ow) planDepth n)) (refused 11 []) (accepted planFigures))))))
 
 -- The table where an answer accepts, and zeros where it refuses.
 abbrev pub tableIf : Answer → NodeInfo → NodeInfo
 tableIf (accepted figures) t = t
 tableIf (refused number values) t = noInfo
+
+-- What a plan with its table is: the planner's answer, and the table of the plan's depth where that accepts.
+pub record Laid (n rs ns ow : ℕ) (answer : Answer) (info : NodeInfo) : Type 0 where
+  pub answered : answer ≡ planAnswer n rs ns ow
+  pub table : info ≡ tableIf (planAnswer n rs ns ow) (infoAt ns rs ow (planDepth n rs ns ow))
 
 -- What the call's own answer says, in those terms.
 abbrev pub planAnswerOf : PlanAnswer → Answer

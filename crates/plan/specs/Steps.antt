@@ -1,26 +1,20 @@
--- What the planner's steps ask and give.
+-- What the planner's private steps ask and give.
 use mathlib.Core.Path.{_≡_}
-use mathlib.Core.Bool.{false}
+use mathlib.Core.Bool.{true, false}
 use mathlib.Core.List.{List}
 use Prim.Native.Nat.{ℕ, _^_, _≤_, _<_}
 use lib.ListN.{getD}
-use Rattle.refusal.specs.Answer.{Answer}
-use Rattle.node_info.specs.Table.{infoAt}
-use Rattle.node_info.specs.declared.NodeInfo.{NodeInfo}
+use Rattle.fields.specs.Numbers.{fieldSize}
 use Rattle.plan.specs.Tree.{nodes, leaves}
-use Rattle.plan.specs.Planned.{planTree, thin, planDepth, planChecks, tableIf}
+use Rattle.plan.specs.Planned.{planTree, thin}
 
--- The numbers have passed refusals 7 to 9.
-pub record Passed (n rs ns : ℕ) : Type 0 where
+-- The numbers have passed refusals 4 and 7 to 9.
+pub record Passed (n rs ns ow : ℕ) : Type 0 where
+  pub offset : fieldSize ow ≡ true
   pub low : 10 ≤ ns
   pub high : ns ≤ 65536
   pub some : 0 < rs
   pub few : n ≤ 16777215
-
--- The answer is the plan's, and the table its own where it is accepted.
-abbrev pub Laid : (n rs ns ow : ℕ) → Answer → NodeInfo → Type 0
-Laid n rs ns ow a t =
-    (a ≡ planChecks n rs ns ow) × (t ≡ tableIf (planChecks n rs ns ow) (infoAt ns rs ow (planDepth n rs ns ow)))
 
 -- The capacity of each level's subtrees, out of the table's column.
 abbrev pub levelOf : List ℕ → ℕ → ℕ

@@ -5,9 +5,9 @@ ghost use mathlib.Core.Bool.{not, _&&_};
 ghost use Prim.Native.Nat.{ℕ, _+_, _-_, _*_, _/_, _%_, _^_, _≤_, _<_};
 ghost use lib.Dec.{ltb, eqb};
 ghost use Rattle.refusal.specs.Answer.{refusalOf};
-ghost use Rattle.node_info.specs.Table.{infoAt, noInfo};
-ghost use Rattle.plan.specs.Steps.{Passed, Laid, Countable, Counted};
-ghost use Rattle.plan.specs.Planned.{taken, planDepth, planChecks, planAnswer, planAnswerOf, tableIf};
+ghost use Rattle.node_info.specs.Table.{noInfo};
+ghost use Rattle.plan.specs.Steps.{Passed, Countable, Counted};
+ghost use Rattle.plan.specs.Planned.{taken, planAnswer, planAnswerOf, Laid};
 use node_info::NodeInfo;
 use refusal::Refusal;
 
@@ -159,33 +159,35 @@ fn is_thin(depth: u16, n: u64) -> bool
     n < (1u64 << (depth + 1)) - 1
 }
 
-// A refusal, with no table.
-fn refuse(cause: Refusal) -> PlanAndTable
-    ensures { λ r. ⌜ (planAnswerOf (r .answer) ≡ refusalOf cause) × (r .info ≡ noInfo) ⌝ }
-{
-    PlanAndTable {
-        answer: PlanAnswer::Refused(cause),
-        info: NodeInfo::none(),
+impl PlanAndTable {
+    // A refusal, with no table.
+    pub fn refused(cause: Refusal) -> PlanAndTable
+        ensures { λ r. ⌜ (planAnswerOf (r .answer) ≡ refusalOf cause) × (r .info ≡ noInfo) ⌝ }
+    {
+        PlanAndTable {
+            answer: PlanAnswer::Refused(cause),
+            info: NodeInfo::none(),
+        }
     }
 }
 
-// The plan and its table, for numbers that have passed refusals 7 to 9. Whether a subtree is too thin is decided at the root.
+// The plan and its table, for numbers that have passed refusals 4 and 7 to 9. Whether a subtree is too thin is decided at the root.
 fn lay_out_passed(
     record_count: u64,
     record_size: u16,
     node_size: u32,
     offset_size: u8,
 ) -> PlanAndTable
-    requires { ⌜ Passed «record_count» «record_size» «node_size» ⌝ }
+    requires { ⌜ Passed «record_count» «record_size» «node_size» «offset_size» ⌝ }
     ensures { λ r. ⌜ Laid «record_count» «record_size» «node_size» «offset_size» (planAnswerOf (r .answer)) (r .info) ⌝ }
 {
     let deepened = NodeInfo::for_record_count(node_size, record_size, offset_size, record_count);
     let depth = deepened.depth;
     if !deepened.enough {
-        return refuse(Refusal::LevelHoldsNone(depth));
+        return PlanAndTable::refused(Refusal::LevelHoldsNone(depth));
     }
     if is_thin(depth, record_count) {
-        return refuse(Refusal::SubtreeTooThin);
+        return PlanAndTable::refused(Refusal::SubtreeTooThin);
     }
     let info = deepened.info;
     let counts = count_subtree(&info.cum_max_nrec, depth as usize, record_count);
@@ -201,35 +203,34 @@ fn lay_out_passed(
     }
 }
 
-// The plan and its table, where the offset size has been tested: refusals 7 to 11.
+// The plan and its table, or the first refusal.
 pub fn lay_out(record_count: u64, record_size: u16, node_size: u32, offset_size: u8) -> PlanAndTable
-    ensures { λ r. ⌜ (planAnswerOf (r .answer) ≡ planChecks «record_count» «record_size» «node_size» «offset_size») × (r .info ≡ tableIf (planChecks «record_count» «record_size» «node_size» «offset_size») (infoAt «node_size» «record_size» «offset_size» (planDepth «record_count» «record_size» «node_size» «offset_size»))) ⌝ }
+    ensures { λ r. ⌜ Laid «record_count» «record_size» «node_size» «offset_size» (planAnswerOf (r .answer)) (r .info) ⌝ }
 {
+    if !counts::is_field_size(offset_size) {
+        return PlanAndTable::refused(Refusal::InvalidOffsetSize(offset_size));
+    }
     if node_size < NODE_SIZE_MIN {
-        return refuse(Refusal::InvalidNodeSize(node_size));
+        return PlanAndTable::refused(Refusal::InvalidNodeSize(node_size));
     }
     if NODE_SIZE_MAX < node_size {
-        return refuse(Refusal::InvalidNodeSize(node_size));
+        return PlanAndTable::refused(Refusal::InvalidNodeSize(node_size));
     }
     if record_size == 0 {
-        return refuse(Refusal::ZeroRecordSize);
+        return PlanAndTable::refused(Refusal::ZeroRecordSize);
     }
     if RECORDS_MAX < record_count {
-        return refuse(Refusal::TooManyRecords(record_count));
+        return PlanAndTable::refused(Refusal::TooManyRecords(record_count));
     }
     lay_out_passed(record_count, record_size, node_size, offset_size)
 }
 
 impl BTreeV2Plan {
-    // The planned tree for records of a size in nodes of a size, or the first refusal.
+    // The plan alone.
     pub fn new(record_count: u64, record_size: u16, node_size: u32, offset_size: u8) -> PlanAnswer
         ensures { λ r. ⌜ planAnswerOf r ≡ planAnswer «record_count» «record_size» «node_size» «offset_size» ⌝ }
     {
-        if counts::is_field_size(offset_size) {
-            let laid = lay_out(record_count, record_size, node_size, offset_size);
-            laid.answer
-        } else {
-            PlanAnswer::Refused(Refusal::InvalidOffsetSize(offset_size))
-        }
+        let laid = lay_out(record_count, record_size, node_size, offset_size);
+        laid.answer
     }
 }

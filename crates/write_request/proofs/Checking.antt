@@ -8,20 +8,20 @@ use lib.Dec.{leb, eqb}
 use borrow.Author.Tests.{not-true, not-false}
 use Rattle.fields.specs.Numbers.{fieldSize}
 use Rattle.refusal.specs.declared.Refusal.{Refusal}
-use Rattle.refusal.specs.Answer.{Answer, accepted, refused, refusalOf, orElse}
+use Rattle.refusal.specs.declared.Verdict.{Verdict}
+use Rattle.refusal.specs.declared.Verdict.the-variants as verdict
+use Rattle.refusal.specs.Answer.{Answer, accepted, refused, refusalOf, verdictOf, orElse}
 use Rattle.refusal.proofs.Answers.{refused-is}
 use Rattle.node_info.specs.declared.NodeInfo.{NodeInfo}
-use Rattle.node_info.specs.Table.{infoAt, noInfo}
+use Rattle.node_info.specs.Table.{noInfo}
 use Rattle.plan.specs.declared.BTreeV2Plan.{BTreeV2Plan}
 use Rattle.plan.specs.declared.PlanAnswer.{PlanAnswer}
 use Rattle.plan.specs.declared.PlanAnswer.the-variants as plan-answer
-use Rattle.plan.specs.Planned.{planFigures, planChecks, planAnswerOf, tableIf}
+use Rattle.plan.specs.Planned.{planFigures, planAnswer, planAnswerOf, Laid}
 use Rattle.plan.proofs.Checks.{Plannable, accepted-plannable}
-use Rattle.format.specs.Writing.{Request, depthOf, nodesOf, writeAnswer}
+use Rattle.format.specs.Writing.{Request, nodesOf, writeAnswer}
 use Rattle.write_request.specs.declared.Lengths.{Lengths}
-use Rattle.write_request.specs.declared.Tested.{Tested}
-use Rattle.write_request.specs.declared.Tested.the-variants as tested
-use Rattle.write_request.specs.Tests.{testedAnswer, lengthAnswer, Checked}
+use Rattle.write_request.specs.Tests.{lengthAnswer, Checked}
 
 -- Two chains of the same tests, the one ending in nothing, the other in `last`.
 pub record Alike (last x y : Answer) : Type 0 where
@@ -45,77 +45,71 @@ alike-tests last r c s h i rv cv sv hv iv =
     (alike-step last _ _ c 13 cv
     (alike-step last _ _ s 14 sv (alike-step last _ _ h 15 hv (alike-step last (accepted []) last i 15 iv (alike-end last)))))
 
+-- A size that was tested, and did not refuse the call.
+pub size-passed : (w : ℕ) {b : Bool} → b ≡ fieldSize w → not b ≡ false → fieldSize w ≡ true
+size-passed w {b} h e = sym h ∙ not-false b e
+
+-- What a plan that was made says of its numbers.
+module _ (n rs ns ow : ℕ) (p : BTreeV2Plan) (x : PlanAnswer) (i : NodeInfo) (is : x ≡ plan-answer.Planned p)
+    (laid : Laid n rs ns ow (planAnswerOf x) i) where
+  abbrev figures : List ℕ
+  figures = p .depth ∷ p .nodes ∷ p .leaves ∷ p .«image_size» ∷ []
+
+  planned-is : planAnswer n rs ns ow ≡ accepted figures
+  planned-is = sym (laid .answered) ∙ ap planAnswerOf is
+
+  known : Plannable n rs ns ow × (figures ≡ planFigures n rs ns ow)
+  known = accepted-plannable n rs ns ow figures planned-is
+
+  pub records-few : n < 2 ^ 24
+  records-few = omega (arith, known .0 .pass)
+
 module _ (q : Request) (l : Lengths) where
-  abbrev plan : Answer
-  plan = planChecks (q .n) (q .rs) (q .ns) (q .ow)
-
-  abbrev table : NodeInfo
-  table = infoAt (q .ns) (q .rs) (q .ow) (depthOf q)
-
-  answer : Answer
+  abbrev answer : Answer
   answer = writeAnswer q (l .records) (l .header) (l .image)
 
-  refused-checked : (a : Answer) (i : NodeInfo) (n : ℕ) (v : List ℕ) → answer ≡ refused n v → a ≡ refused n v → i ≡ noInfo → Checked q l a i
-  unfolding answer
-  refused-checked a i n v e ha hi = record { answered = ha ∙ sym e; table = rw e hi }
+  refused-checked : (a : Answer) (i : NodeInfo) (n : ℕ) (v : List ℕ) → answer ≡ refused n v → (a ≡ refused n v) × (i ≡ noInfo) → Checked q l a i
+  refused-checked a i n v e out = record { answered = out .0 ∙ sym e; table = rw e (out .1) }
 
-  pub checked-4 : (b : Bool) (a : Answer) (i : NodeInfo) → b ≡ fieldSize (q .ow) → not b ≡ true → a ≡ refused 4 (q .ow ∷ []) → i ≡ noInfo → Checked q l a i
-  unfolding answer writeAnswer
-  checked-4 b a i hb t ha hi = refused-checked a i 4 (q .ow ∷ []) (rw (← hb, not-true b t)) ha hi
+  module _ (b : Bool) (ow : b ≡ fieldSize (q .ow)) where
+    pub checked-4 : (a : Answer) (i : NodeInfo) → not b ≡ true → (a ≡ refused 4 (q .ow ∷ [])) × (i ≡ noInfo) → Checked q l a i
+    unfolding writeAnswer
+    checked-4 a i t out = refused-checked a i 4 (q .ow ∷ []) (rw (← ow, not-true b t)) out
 
-  module _ (b : Bool) (ow : b ≡ fieldSize (q .ow)) (four : not b ≡ false) where
-    pub offset-passed : fieldSize (q .ow) ≡ true
-    offset-passed = sym ow ∙ not-false b four
+    module _ (four : not b ≡ false) (d : Bool) (lw : d ≡ fieldSize (q .lw)) where
+      pub checked-5 : (a : Answer) (i : NodeInfo) → not d ≡ true → (a ≡ refused 5 (q .lw ∷ [])) × (i ≡ noInfo) → Checked q l a i
+      unfolding writeAnswer
+      checked-5 a i t out = refused-checked a i 5 (q .lw ∷ []) (rw (size-passed (q .ow) ow four, ← lw, not-true d t)) out
 
-    pub checked-5 : (d : Bool) (a : Answer) (i : NodeInfo) → d ≡ fieldSize (q .lw) → not d ≡ true → a ≡ refused 5 (q .lw ∷ []) → i ≡ noInfo
-        → Checked q l a i
-    unfolding answer writeAnswer
-    checked-5 d a i hd t ha hi = refused-checked a i 5 (q .lw ∷ []) (rw (offset-passed, ← hd, not-true d t)) ha hi
-
-    module _ (d : Bool) (lw : d ≡ fieldSize (q .lw)) (five : not d ≡ false) where
-      pub length-passed : fieldSize (q .lw) ≡ true
-      length-passed = sym lw ∙ not-false d five
-
-      -- The plan is refused.
-      pub checked-plan : (r : Refusal) (x : PlanAnswer) (i : NodeInfo) → x ≡ plan-answer.Refused r → planAnswerOf x ≡ plan → i ≡ tableIf plan table → Checked q l (planAnswerOf x) i
-      unfolding answer writeAnswer
-      checked-plan r x i hx e hi =
-          let ha : planAnswerOf x ≡ refusalOf r = ap planAnswerOf hx in
-          let s = refused-is r in
-          let p : plan ≡ refused (s .0) (s .1) = sym e ∙ ha ∙ s .2 in
-          refused-checked (planAnswerOf x) i (s .0) (s .1) (rw (offset-passed, length-passed, p)) (ha ∙ s .2) (rw p at hi)
-
-      -- The plan is accepted.
-      module _ (p : BTreeV2Plan) (x : PlanAnswer) (is : x ≡ plan-answer.Planned p) (laid : planAnswerOf x ≡ plan) where
-        e : accepted (p .depth ∷ p .nodes ∷ p .leaves ∷ p .«image_size» ∷ []) ≡ plan
-        e = sym (ap planAnswerOf is) ∙ laid
-
-        known : Plannable (q .n) (q .rs) (q .ns) (q .ow) × (_≡_ {A = List ℕ} (p .depth ∷ p .nodes ∷ p .leaves ∷ p .«image_size» ∷ []) (planFigures (q .n) (q .rs) (q .ns) (q .ow)))
-        known = accepted-plannable (q .n) (q .rs) (q .ns) (q .ow) _ (sym e)
-
-        pub records-few : q .n < 2 ^ 24
-        records-few = omega (arith, known .0 .pass)
-
-        pub image-is : p .«image_size» ≡ nodesOf q * q .ns
-        unfolding planFigures nodesOf
-        image-is = let f = known .1 in cc
-
-        abbrev tests : Answer
-        tests = lengthAnswer (p .«image_size») (q .n) (q .rs) (q .ow) (q .lw) (q .start) l
-
-        alike : Alike plan tests answer
-        unfolding answer writeAnswer lengthAnswer
-        alike =
-            rw (offset-passed, length-passed, ← e, image-is)
-            (alike-tests _ (eqb (l .records) (q .n * q .rs)) (leb (q .n) (2 ^ (8 * q .lw) - 1)) (leb (q .start + nodesOf q * q .ns) (2 ^ (8 * q .ow) - 1)) (leb (22 + q .ow + q .lw) (l .header)) (leb (nodesOf q * q .ns) (l .image))
-            (l .records ∷ []) (q .n ∷ []) (q .start ∷ []) (l .header ∷ []) (l .image ∷ []))
-
-        pub checked-passed : (t : Tested) (i : NodeInfo) → t ≡ tested.Passed → testedAnswer t ≡ tests → i ≡ tableIf plan table → Checked q l (planAnswerOf x) i
-        unfolding answer
-        checked-passed t i ht hs hi =
-            let w = alike .passed (sym hs ∙ ap testedAnswer ht) in record { answered = laid ∙ sym w; table = rw w hi }
-
-        pub checked-lengths : (r : Refusal) (t : Tested) (b : Answer) (i : NodeInfo) → t ≡ tested.Refused r → testedAnswer t ≡ tests → b ≡ refusalOf r → i ≡ noInfo → Checked q l b i
-        checked-lengths r t b i ht hs hb hi =
+      module _ (five : not d ≡ false) (x : PlanAnswer) (i : NodeInfo) (laid : Laid (q .n) (q .rs) (q .ns) (q .ow) (planAnswerOf x) i) where
+        -- The plan is refused.
+        pub checked-plan : (r : Refusal) → x ≡ plan-answer.Refused r → Checked q l (planAnswerOf x) i
+        unfolding writeAnswer
+        checked-plan r is =
             let s = refused-is r in
-            refused-checked b i (s .0) (s .1) (alike .stopped (s .0) (s .1) (sym hs ∙ ap testedAnswer ht ∙ s .2)) (hb ∙ s .2) hi
+            let e : planAnswerOf x ≡ refused (s .0) (s .1) = ap planAnswerOf is ∙ s .2 in
+            let p : planAnswer (q .n) (q .rs) (q .ns) (q .ow) ≡ refused (s .0) (s .1) = sym (laid .answered) ∙ e in
+            refused-checked (planAnswerOf x) i (s .0) (s .1) (rw (size-passed (q .ow) ow four, size-passed (q .lw) lw five, p)) (e, rw p at (laid .table))
+
+        -- The plan is accepted, so the lengths decide.
+        module _ (p : BTreeV2Plan) (is : x ≡ plan-answer.Planned p) (t : Verdict)
+            (tested : verdictOf t ≡ lengthAnswer (p .«image_size») (q .n) (q .rs) (q .ow) (q .lw) (q .start) l) where
+          image-is : p .«image_size» ≡ nodesOf q * q .ns
+          unfolding planFigures nodesOf
+          image-is = let f = known (q .n) (q .rs) (q .ns) (q .ow) p x i is laid .1 in cc
+
+          alike : Alike (planAnswer (q .n) (q .rs) (q .ns) (q .ow)) (verdictOf t) answer
+          unfolding writeAnswer lengthAnswer
+          alike =
+              rw (size-passed (q .ow) ow four, size-passed (q .lw) lw five, planned-is (q .n) (q .rs) (q .ns) (q .ow) p x i is laid, tested, image-is)
+              (alike-tests _ (eqb (l .records) (q .n * q .rs)) (leb (q .n) (2 ^ (8 * q .lw) - 1)) (leb (q .start + nodesOf q * q .ns) (2 ^ (8 * q .ow) - 1)) (leb (22 + q .ow + q .lw) (l .header)) (leb (nodesOf q * q .ns) (l .image))
+              (l .records ∷ []) (q .n ∷ []) (q .start ∷ []) (l .header ∷ []) (l .image ∷ []))
+
+          pub checked-passed : t ≡ verdict.Accepted → Checked q l (planAnswerOf x) i
+          checked-passed e =
+              let w = alike .passed (ap verdictOf e) in record { answered = laid .answered ∙ sym w; table = rw w (laid .table) }
+
+          pub checked-lengths : (r : Refusal) (a : Answer) (j : NodeInfo) → t ≡ verdict.Refused r → (a ≡ refusalOf r) × (j ≡ noInfo) → Checked q l a j
+          checked-lengths r a j e out =
+              let s = refused-is r in
+              refused-checked a j (s .0) (s .1) (alike .stopped (s .0) (s .1) (ap verdictOf e ∙ s .2)) (out .0 ∙ s .2, out .1)

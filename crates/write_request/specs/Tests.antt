@@ -2,7 +2,7 @@
 use Prim.Native.Nat.{ℕ, _+_, _-_, _*_, _^_}
 use mathlib.Core.List.{List, [], _∷_}
 use lib.Dec.{leb, eqb}
-use Rattle.refusal.specs.Answer.{Answer, accepted, refused, refusalOf, orElse}
+use Rattle.refusal.specs.Answer.{Answer, accepted, refused, orElse}
 use mathlib.Core.Path.{_≡_}
 use Rattle.node_info.specs.declared.NodeInfo.{NodeInfo}
 use Rattle.node_info.specs.Table.{infoAt}
@@ -11,12 +11,6 @@ use Rattle.format.specs.Writing as Asked
 use Rattle.format.specs.Writing.{depthOf, writeAnswer}
 use Rattle.write_request.specs.declared.Request.{Request}
 use Rattle.write_request.specs.declared.Lengths.{Lengths}
-use Rattle.write_request.specs.declared.Tested.{Tested}
-use Rattle.write_request.specs.declared.Tested.the-variants.{Passed, Refused}
-
-abbrev pub testedAnswer : Tested → Answer
-testedAnswer Passed = accepted []
-testedAnswer (Refused r) = refusalOf r
 
 -- Refusals 12 to 15, in this order, for an image of these bytes.
 unfoldable pub lengthAnswer : ℕ → ℕ → ℕ → ℕ → ℕ → ℕ → Lengths → Answer

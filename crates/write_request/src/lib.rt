@@ -4,15 +4,14 @@ ghost use mathlib.Core.Path.{_≡_};
 ghost use mathlib.Core.Bool.{true};
 ghost use Prim.Native.Nat.{_-_, _*_, _^_, _<_};
 ghost use Rattle.fields.specs.Numbers.{fieldSize};
-ghost use Rattle.refusal.specs.Answer.{refusalOf};
-ghost use Rattle.node_info.specs.Table.{noInfo};
+ghost use Rattle.refusal.specs.Answer.{verdictOf};
 ghost use Rattle.plan.specs.Planned.{planAnswerOf};
-ghost use Rattle.write_request.specs.Tests.{testedAnswer, lengthAnswer, requestOf, Checked};
-use node_info::NodeInfo;
+ghost use Rattle.write_request.specs.Tests.{lengthAnswer, requestOf, Checked};
 use plan::BTreeV2Plan;
 use plan::PlanAndTable;
 use plan::PlanAnswer;
 use refusal::Refusal;
+use refusal::Verdict;
 
 // The numbers that the writing call is given.
 pub struct Request {
@@ -30,12 +29,6 @@ pub struct Lengths {
     pub records: u64,
     pub header: u64,
     pub image: u64,
-}
-
-// Whether something is refused.
-enum Tested {
-    Passed,
-    Refused(Refusal),
 }
 
 // The largest number that a field of 2, 4 or 8 bytes holds.
@@ -61,40 +54,30 @@ fn test_lengths(
     length_size: u8,
     start: u64,
     lengths: Lengths,
-) -> Tested
+) -> Verdict
     requires { ⌜ (fieldSize «offset_size» ≡ true) × (fieldSize «length_size» ≡ true) × («record_count» < 2 ^ 24) ⌝ }
-    ensures { λ r. ⌜ testedAnswer r ≡ lengthAnswer (plan .«image_size») «record_count» «record_size» «offset_size» «length_size» start lengths ⌝ }
+    ensures { λ r. ⌜ verdictOf r ≡ lengthAnswer (plan .«image_size») «record_count» «record_size» «offset_size» «length_size» start lengths ⌝ }
 {
     if lengths.records != record_count * (record_size as u64) {
-        return Tested::Refused(Refusal::RecordBufferLength(lengths.records));
+        return Verdict::Refused(Refusal::RecordBufferLength(lengths.records));
     }
     if largest(length_size) < record_count {
-        return Tested::Refused(Refusal::CountAboveLengthSize(record_count));
+        return Verdict::Refused(Refusal::CountAboveLengthSize(record_count));
     }
     let most = largest(offset_size);
     if most < plan.image_size {
-        return Tested::Refused(Refusal::AddressAboveOffsetSize(start));
+        return Verdict::Refused(Refusal::AddressAboveOffsetSize(start));
     }
     if most - plan.image_size < start {
-        return Tested::Refused(Refusal::AddressAboveOffsetSize(start));
+        return Verdict::Refused(Refusal::AddressAboveOffsetSize(start));
     }
     if lengths.header < 22 + (offset_size as u64) + (length_size as u64) {
-        return Tested::Refused(Refusal::OutputTooShort(lengths.header));
+        return Verdict::Refused(Refusal::OutputTooShort(lengths.header));
     }
     if lengths.image < plan.image_size {
-        return Tested::Refused(Refusal::OutputTooShort(lengths.image));
+        return Verdict::Refused(Refusal::OutputTooShort(lengths.image));
     }
-    Tested::Passed
-}
-
-// A refusal, with no table.
-fn refuse(cause: Refusal) -> PlanAndTable
-    ensures { λ r. ⌜ (planAnswerOf (r .answer) ≡ refusalOf cause) × (r .info ≡ noInfo) ⌝ }
-{
-    PlanAndTable {
-        answer: PlanAnswer::Refused(cause),
-        info: NodeInfo::none(),
-    }
+    Verdict::Accepted
 }
 
 // Every refusal of the call, decided from its numbers and the lengths of the lent buffers; accepted, the plan and its table.
@@ -106,10 +89,10 @@ pub fn check(request: Request, lengths: Lengths) -> PlanAndTable
     let offset_size = request.offset_size;
     let length_size = request.length_size;
     if !counts::is_field_size(offset_size) {
-        return refuse(Refusal::InvalidOffsetSize(offset_size));
+        return PlanAndTable::refused(Refusal::InvalidOffsetSize(offset_size));
     }
     if !counts::is_field_size(length_size) {
-        return refuse(Refusal::InvalidLengthSize(length_size));
+        return PlanAndTable::refused(Refusal::InvalidLengthSize(length_size));
     }
     let laid = plan::lay_out(record_count, record_size, request.node_size, offset_size);
     let answer = laid.answer;
@@ -126,7 +109,7 @@ pub fn check(request: Request, lengths: Lengths) -> PlanAndTable
         lengths,
     );
     match tested {
-        Tested::Passed => laid,
-        Tested::Refused(cause) => refuse(cause),
+        Verdict::Accepted => laid,
+        Verdict::Refused(cause) => PlanAndTable::refused(cause),
     }
 }

@@ -1,6 +1,5 @@
--- `lay_out`: refusals 7 to 9 in their order, and the rest.
-use Rattle.plan.proofs.Checks.{checks-7-low, checks-7-high, checks-8, checks-9}
-use Rattle.plan.proofs.Laying.{refused-out}
+-- `lay_out`: refusals 4 and 7 to 9 in their order, and the rest.
+use Rattle.plan.proofs.Laying.{laid-4, laid-7-low, laid-7-high, laid-8, laid-9, passed-all}
 use borrow.Author.Needs.{needs}
 use Rattle.plan.proofs.lay_out.Statement.{statement}
 use Rattle.plan.proofs.lay_out.Tie as tie
@@ -10,12 +9,22 @@ lay-out-spec =
     tie.close
     (tie.spec
     (λ c κs. search needs)
-    (λ c. refused-out _ _ _ _ _ _ _ _ (c .refuse .ensures .0) (c .refuse .ensures .1) (checks-7-low _ _ _ _ (c .before .if1 .taken)))
     (λ c κs. search needs)
-    (λ c. refused-out _ _ _ _ _ _ _ _ (c .refuse2 .ensures .0) (c .refuse2 .ensures .1) (checks-7-high _ _ _ _ (c .before .if2 .taken)))
+    (λ c. laid-4 _ _ _ _ _ (c .before .before .is-field-size .ensures) _ _ (c .before .if1 .taken) (c .refused .ensures))
     (λ c κs. search needs)
-    (λ c. refused-out _ _ _ _ _ _ _ _ (c .refuse3 .ensures .0) (c .refuse3 .ensures .1) (checks-8 _ _ _ _ (c .before .before .before .if1 .left) (c .before .before .if2 .left) (c .before .if3 .taken)))
+    (λ c. let four = c .before .before in laid-7-low _ _ _ _ _ (four .before .is-field-size .ensures) (four .if1 .left) _ _ (c .before .if2 .taken) (c .refused2 .ensures))
     (λ c κs. search needs)
-    (λ c. refused-out _ _ _ _ _ _ _ _ (c .refuse4 .ensures .0) (c .refuse4 .ensures .1) (checks-9 _ _ _ _ (c .before .before .before .before .if1 .left) (c .before .before .before .if2 .left) (c .before .before .if3 .left) (c .before .if4 .taken)))
+    (λ c. let four = c .before .before .before in laid-7-high _ _ _ _ _ (four .before .is-field-size .ensures) (four .if1 .left) _ _ (c .before .if3 .taken) (c .refused3 .ensures))
     (λ c κs. search needs)
+    (λ c.
+    let seven = c .before .before in
+    let four = seven .before .before in
+    laid-8 _ _ _ _ _ (four .before .is-field-size .ensures) (four .if1 .left) (seven .before .if2 .left) (seven .if3 .left) _ _ (c .before .if4 .taken) (c .refused4 .ensures))
+    (λ c κs. search needs)
+    (λ c.
+    let eight = c .before .before in
+    let seven = eight .before in
+    let four = seven .before .before in
+    laid-9 _ _ _ _ _ (four .before .is-field-size .ensures) (four .if1 .left) (seven .before .if2 .left) (seven .if3 .left) (eight .if4 .left) _ _ (c .before .if5 .taken) (c .refused5 .ensures))
+    (λ c κs. search passed-all)
     (λ c. search needs))

@@ -10,10 +10,10 @@ lay-out-passed-spec =
     (tie.spec
     (λ c κs. search needs)
     (λ c κs. search needs)
-    (λ c. laid-10 _ _ _ _ (c .before .before .before .before .pre) _ (c .before .before .before .for-record-count .ensures .0) _ (c .before .before .before .for-record-count .ensures .2) _ _ (c .before .if1 .taken) (c .refuse .ensures .0) (c .refuse .ensures .1))
+    (λ c. laid-10 _ _ _ _ (c .before .before .before .before .pre) _ (c .before .before .before .for-record-count .ensures .0) _ (c .before .before .before .for-record-count .ensures .2) _ _ (c .before .if1 .taken) (c .refused .ensures))
     (λ c κs. search laid-depth)
     (λ c κs. search needs)
-    (λ c. laid-11 _ _ _ _ (c .before .before .before .before .before .before .pre) _ (c .before .before .before .before .before .for-record-count .ensures .0) _ (c .before .before .before .before .before .for-record-count .ensures .2) (c .before .before .before .if1 .left) _ (c .before .before .is-thin .ensures) _ _ (c .before .if2 .taken) (c .refuse2 .ensures .0) (c .refuse2 .ensures .1))
+    (λ c. laid-11 _ _ _ _ (c .before .before .before .before .before .before .pre) _ (c .before .before .before .before .before .for-record-count .ensures .0) _ (c .before .before .before .before .before .for-record-count .ensures .2) (c .before .before .before .if1 .left) _ (c .before .before .is-thin .ensures) _ _ (c .before .if2 .taken) (c .refused2 .ensures))
     (λ c. search needs)
     (λ c κs. search laid-countable)
     (λ c. search image-fits)
