@@ -1,31 +1,29 @@
 -- Laws of lookup3's definitions, in the forms in which the functions' proofs have them.
 use mathlib.Core.Path.{_≡_, refl}
-use mathlib.Core.Bool.{Bool, true, false}
 use mathlib.Core.List.{List, [], _∷_}
 use Prim.Native.Nat.{ℕ, zero, suc, _+_, _-_, _*_, _/_, _%_, _^_, _≤_, _<_}
-use native.Mathlib.Nat.{add-assoc, add-comm, add-zero, sub-zero, add-mod-mod, mul-mod-left, not-suc-le-zero, lt-of-le-of-lt}
+use native.Mathlib.Nat.{add-assoc, add-comm, add-zero, sub-zero, add-mod-mod, mul-mod-left, not-suc-le-zero}
 use native.Mathlib.Omega.{arith}
-use lib.Bits.{bitOr, bitXor, or-shifted, or-lt, xor-lt}
-use lib.Pow.{mod-pow-add, shl-shr, shr-lt, shr-le}
-use lib.Dec.{ltb, lit<}
+use lib.Bits.{bitOr, bitXor, or-shifted}
+use lib.Pow.{mod-pow-add, shl-shr, shr-lt}
 use lib.ListN.{length, getD, drop, List·getD-eq-default, length-drop}
 use lib.Seq.{getD-drop, drop-drop, drop-length}
 use borrow.Author.Needs.{zero≤}
 use borrow.Author.Tests.{lt-ltb, le-ltb}
 use Rattle.checksum.specs.declared.Words.{Words}
-use Rattle.checksum.specs.Lookup3.{pick, plus, minus, rotated, mixLine, finalLine, started, word, blockAdded, ended, blocks, lookup3, finalMixed, mixed}
+use Rattle.checksum.specs.Lookup3.{plus, minus, rotated, mixLine, finalLine, started, word, blockAdded, ended, blocks, lookup3, finalMixed, mixed}
 
 -- mix and final, line after line.
-pub mixed-is : (w v1 v2 v3 v4 v5 v6 : Words) → v1 ≡ mixLine 4 w → v2 ≡ mixLine 6 v1 → v3 ≡ mixLine 8 v2 → v4 ≡ mixLine 16 v3
-    → v5 ≡ mixLine 19 v4 → v6 ≡ mixLine 4 v5 → v6 ≡ mixed w
+pub mixed-is : (w : Words) {v1 v2 v3 v4 v5 v6 : Words} → v1 ≡ mixLine 4 w → v2 ≡ mixLine 6 v1 → v3 ≡ mixLine 8 v2
+    → v4 ≡ mixLine 16 v3 → v5 ≡ mixLine 19 v4 → v6 ≡ mixLine 4 v5 → v6 ≡ mixed w
 unfolding mixed
-mixed-is w v1 v2 v3 v4 v5 v6 h1 h2 h3 h4 h5 h6 = rw (h6, h5, h4, h3, h2, h1)
+mixed-is w h1 h2 h3 h4 h5 h6 = rw (h6, h5, h4, h3, h2, h1)
 
-pub final-mixed-is : (w v1 v2 v3 v4 v5 v6 v7 : Words) → v1 ≡ finalLine 14 w → v2 ≡ finalLine 11 v1 → v3 ≡ finalLine 25 v2
-    → v4 ≡ finalLine 16 v3 → v5 ≡ finalLine 4 v4 → v6 ≡ finalLine 14 v5 → v7 ≡ finalLine 24 v6
+pub final-mixed-is : (w : Words) {v1 v2 v3 v4 v5 v6 v7 : Words} → v1 ≡ finalLine 14 w → v2 ≡ finalLine 11 v1
+    → v3 ≡ finalLine 25 v2 → v4 ≡ finalLine 16 v3 → v5 ≡ finalLine 4 v4 → v6 ≡ finalLine 14 v5 → v7 ≡ finalLine 24 v6
     → _≡_ {A = Words} (record { a = v7 .c; b = v7 .a; c = v7 .b }) (finalMixed w)
 unfolding finalMixed
-final-mixed-is w v1 v2 v3 v4 v5 v6 v7 h1 h2 h3 h4 h5 h6 h7 = rw (h7, h6, h5, h4, h3, h2, h1)
+final-mixed-is w h1 h2 h3 h4 h5 h6 h7 = rw (h7, h6, h5, h4, h3, h2, h1)
 
 -- The two halves of a turned word have no bit in common.
 halves : (j k x : ℕ) → x < 2 ^ (k + j) → bitOr (x * 2 ^ k % 2 ^ (j + k)) (x / 2 ^ j) ≡ x * 2 ^ k % 2 ^ (j + k) + x / 2 ^ j
@@ -39,7 +37,7 @@ unfolding rotated
 rot-is x k hx hk = rot-at (32 - k) k 32 x (omega arith) hx
 
 -- What the library's wrapping difference ensures is the difference modulo 2^32.
-pub minus-is : (r x y : ℕ) → r < 2 ^ 32 → y < 2 ^ 32 → (r + y) % 2 ^ 32 ≡ x → r ≡ minus x y
+minus-is : (r x y : ℕ) → r < 2 ^ 32 → y < 2 ^ 32 → (r + y) % 2 ^ 32 ≡ x → r ≡ minus x y
 minus-is r x y hr hy e = omega arith
 
 module _ (w : Words) (k s t : ℕ) (fits : s < 2 ^ 32) where
@@ -77,14 +75,15 @@ module _ (d : List ℕ) (i : ℕ) (h : i ≤ length d) where
   word-1 x l hx = omega (arith, past d i 1 (omega arith), past d i 2 (omega arith), past d i 3 (omega arith))
 
 -- A word past the end is 0.
-pub word-past : (d : List ℕ) (i : ℕ) → length d ≤ i → word d i ≡ 0
+word-past : (d : List ℕ) (i : ℕ) → length d ≤ i → word d i ≡ 0
 unfolding word
 word-past d i h = omega (arith, List·getD-eq-default d 0 h, past d i 1 (omega arith), past d i 2 (omega arith), past d i 3 (omega arith))
 
-pub word-0 : (d : List ℕ) (i : ℕ) → i ≤ length d → length d - i < 4 → (length d - i ≡ 3 → ⊥) → (length d - i ≡ 2 → ⊥) → (length d - i ≡ 1 → ⊥) → 0 ≡ word d i
+pub word-0 : (d : List ℕ) (i : ℕ) → i ≤ length d → length d - i < 4 → (length d - i ≡ 3 → ⊥) → (length d - i ≡ 2 → ⊥)
+    → (length d - i ≡ 1 → ⊥) → 0 ≡ word d i
 word-0 d i h a b e g = rw (word-past d i (omega arith))
 
-pub word-drop : (d : List ℕ) (n i : ℕ) → word (drop n d) i ≡ word d (n + i)
+word-drop : (d : List ℕ) (n i : ℕ) → word (drop n d) i ≡ word d (n + i)
 unfolding word
 word-drop d n i = simp (getD-drop, add-assoc)
 
@@ -155,52 +154,3 @@ left-turn d w v u i inv h hv hu =
 
 pub left-end : (d : List ℕ) (w : Words) (i r : ℕ) → Left d w i → length d - i ≤ 12 → r ≡ ended w (drop i d) → r ≡ lookup3 d
 left-end d w i r inv h e = rw (e, ← blocks-end (length d - i / 12) w (drop i d) (simp length-drop h)) (inv .1)
-
--- The checksum of no bytes.
-pub lookup3-empty : lookup3 [] ≡ 0xdeadbeef
-unfolding lookup3 blocks ended started
-lookup3-empty = refl
-
--- Every checksum is a 32-bit word.
-abbrev Fit : Words → Type 0
-Fit w = (w .a < 2 ^ 32) × (w .b < 2 ^ 32) × (w .c < 2 ^ 32)
-
-word-lt : (x : ℕ) → x % 2 ^ 32 < 2 ^ 32
-word-lt x = omega arith
-
-rotated-lt : (x k : ℕ) → x < 2 ^ 32 → k < 32 → rotated x k < 2 ^ 32
-rotated-lt x k h l =
-    rw (← rot-is x k h l) (or-lt 32 (x * 2 ^ k % 2 ^ 32) (x / 2 ^ (32 - k)) (word-lt (x * 2 ^ k)) (lt-of-le-of-lt (shr-le x (32 - k)) h))
-
-mix-line-fits : (k : ℕ) (w : Words) → k < 32 → Fit w → Fit (mixLine k w)
-unfolding mixLine
-mix-line-fits k w l f =
-    (f .1, word-lt (w .c + w .b), xor-lt 32 (minus (w .a) (w .c)) (rotated (w .c) k) (word-lt _) (rotated-lt (w .c) k (f .2) l))
-
-mixed-fits : (w : Words) → Fit w → Fit (mixed w)
-unfolding mixed
-mixed-fits w f =
-    mix-line-fits 4 _ (lit< tt)
-    (mix-line-fits 19 _ (lit< tt)
-    (mix-line-fits 16 _ (lit< tt)
-    (mix-line-fits 8 _ (lit< tt) (mix-line-fits 6 _ (lit< tt) (mix-line-fits 4 w (lit< tt) f)))))
-
-ended-lt : (w : Words) (d : List ℕ) → Fit w → ended w d < 2 ^ 32
-unfolding ended finalMixed finalLine
-ended-lt w [] f = f .2
-ended-lt w (x ∷ xs) f = word-lt _
-
-pick-lt : (t : Bool) (x y : ℕ) → x < 2 ^ 32 → y < 2 ^ 32 → pick t x y < 2 ^ 32
-pick-lt true x y hx hy = hx
-pick-lt false x y hx hy = hy
-
-blocks-lt : (k : ℕ) (w : Words) (d : List ℕ) → Fit w → blocks k w d < 2 ^ 32
-unfolding blocks blockAdded
-blocks-lt zero w d f = ended-lt w d f
-blocks-lt (suc k) w d f =
-    pick-lt (ltb 12 (length d)) _ _
-    (blocks-lt k (mixed (blockAdded w d)) (drop 12 d) (mixed-fits (blockAdded w d) (word-lt _, word-lt _, word-lt _))) (ended-lt w d f)
-
-pub lookup3-lt : (d : List ℕ) → lookup3 d < 2 ^ 32
-unfolding lookup3 started
-lookup3-lt d = blocks-lt (length d) _ d (word-lt _, word-lt _, word-lt _)

@@ -6,7 +6,7 @@ use native.Mathlib.Nat.{le-refl, le-trans, zero-add, zero-mul, mul-le-mul-left}
 use native.Mathlib.Omega.{arith}
 use lib.ListN.{length, drop}
 use borrow.Author.Tests.{le-leb, lt-ltb, ne-eqb}
-use Rattle.checksum.proofs.Laws.{lookup3-lt}
+use Rattle.checksum.proofs.Promise.{lookup3-lt}
 use Rattle.fields.specs.Numbers.{part}
 use Rattle.fields.proofs.Lists.{stored-is}
 use Rattle.node_info.specs.Capacity.{leafCapacity, subtreeCapacity, nodeCapacity, pointerSize}

@@ -9,8 +9,7 @@ use native.Mathlib.Omega.{arith}
 use lib.Dec.{lit<}
 use lib.ListN.{length, length-append}
 use borrow.Author.Tests.{le-leb}
-use Rattle.checksum.specs.Lookup3.{lookup3}
-use Rattle.checksum.proofs.Laws.{lookup3-lt}
+use Rattle.checksum.proofs.Promise.{lookup3, lookup3-lt}
 use Rattle.fields.specs.Numbers.{le, unle, part, num, fieldSize}
 use Rattle.fields.proofs.Numbers.{le-length}
 use Rattle.refusal.specs.Answer.{Answer, accepted}

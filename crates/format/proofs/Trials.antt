@@ -5,7 +5,7 @@ use mathlib.Core.Path.{_≡_, refl}
 use mathlib.Core.List.{List, [], _∷_, _++_, reverse}
 use Prim.Native.Nat.{ℕ, zero, suc, _+_, _-_, _*_, _%_}
 use lib.ListN.{length, take, set, replicate}
-use Rattle.checksum.specs.Lookup3.{rotated, mixLine, mixed, finalLine, finalMixed, started, word, blockAdded, ended, blocks, lookup3}
+use Rattle.checksum.proofs.Promise.{lookup3, computed}
 use Rattle.fields.specs.Numbers.{pick, le, unle, num, leastFrom, width, fieldSize}
 use Rattle.fields.specs.Places.{stored}
 use Rattle.refusal.specs.Answer.{cells}
@@ -223,5 +223,12 @@ disagreeing i [] = []
 disagreeing i (t ∷ ts) = let rest = disagreeing (i + 1) ts in pick (same (t .found) (t .due)) rest (i ∷ rest)
 
 agree : disagreeing 0 (writes ++ (reads ++ collects)) ≡ []
-unfolding rotated mixLine mixed finalLine finalMixed started word blockAdded ended blocks lookup3 le unle num leastFrom width fieldSize stored cells leafCapacity countWidth pointerSize internalCapacity subtreeCapacity totalWidth nodeCapacity depthFrom depthFor sumKids between count size below nodes leaves taken dealt children kidsOf planTree anyOf thin planDepth planned planFigures planAnswer summed padded pointerBytes address rows leafBytes pointer pointers ownRows internalBytes kidsImage image headerBytes over formOf nodesOf imageOf rootOf rootRecordsOf headerOf writeAnswer written headerExit imageExit putRecord putRecords pointerWidth pointerPlace childAddress childRecords leafRun childRun innerRun childrenRun nodeRun same checksumTest headerAt parsed leafTest internalTest collectTests sourceOf collected runCells dump dumps rampFrom ramp lent writing summing refusing reading collecting request header threeHeader threeImage fourHeader fourImage eightHeader eightImage eightFile twoHeader twoImage noneHeader noneImage writes reads collects disagreeing
+unfolding computed le unle num leastFrom width fieldSize stored cells leafCapacity countWidth pointerSize internalCapacity subtreeCapacity
+    totalWidth nodeCapacity depthFrom depthFor sumKids between count size below nodes leaves taken dealt children kidsOf planTree anyOf thin
+    planDepth planned planFigures planAnswer summed padded pointerBytes address rows leafBytes pointer pointers ownRows internalBytes
+    kidsImage image headerBytes over formOf nodesOf imageOf rootOf rootRecordsOf headerOf writeAnswer written headerExit imageExit putRecord
+    putRecords pointerWidth pointerPlace childAddress childRecords leafRun childRun innerRun childrenRun nodeRun same checksumTest headerAt
+    parsed leafTest internalTest collectTests sourceOf collected runCells dump dumps rampFrom ramp lent writing summing refusing reading
+    collecting request header threeHeader threeImage fourHeader fourImage eightHeader eightImage eightFile twoHeader twoImage noneHeader
+    noneImage writes reads collects disagreeing
 agree = refl

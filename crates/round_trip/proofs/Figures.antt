@@ -2,7 +2,7 @@
 use mathlib.Core.Path.{_≡_, refl}
 use mathlib.Core.List.{List, map}
 use Prim.Native.Nat.{ℕ}
-use Rattle.checksum.specs.Lookup3.{started, word, blockAdded, rotated, mixLine, mixed, finalLine, finalMixed, ended, blocks, lookup3}
+use Rattle.checksum.proofs.Promise.{computed}
 use Rattle.fields.specs.Numbers.{fieldSize, width, leastFrom, le}
 use Rattle.refusal.specs.Answer.{cells}
 use Rattle.node_info.specs.Capacity.{leafCapacity, countWidth, pointerSize, internalCapacity, subtreeCapacity, totalWidth, nodeCapacity, depthFrom, depthFor}
@@ -11,8 +11,11 @@ use Rattle.plan.specs.Tree.{sumKids, between, count, size, below, nodes, leaves
 use Rattle.plan.specs.Planned.{taken, dealt, children, kidsOf, planTree, anyOf, thin, planDepth, planned, planFigures, planAnswer}
 use Rattle.format.specs.Bytes.{summed, address, headerBytes}
 use Rattle.format.specs.Writing.{formOf, rootOf, rootRecordsOf, headerOf}
-use Rattle.round_trip.specs.Figures.{joinKids, counts, betweenFrom, rootRecords, plan, headerSize, figures}
+use Rattle.round_trip.specs.Nodes.{joinKids, counts}
+use Rattle.round_trip.specs.Figures.{betweenFrom, rootRecords, plan, headerSize, figures}
 
 pub figures-hold : map (λ (r : List ℕ × List ℕ). r .0) figures ≡ map (λ (r : List ℕ × List ℕ). r .1) figures
-unfolding started word blockAdded rotated mixLine mixed finalLine finalMixed ended blocks lookup3 le summed address headerBytes formOf rootOf rootRecordsOf headerOf headerSize count fieldSize width leastFrom cells leafCapacity countWidth pointerSize internalCapacity subtreeCapacity totalWidth nodeCapacity depthFrom depthFor columnFrom column infoAt sumKids between size below nodes leaves taken dealt children kidsOf planTree anyOf thin planDepth planned planFigures planAnswer joinKids counts betweenFrom rootRecords plan figures
+unfolding computed le summed address headerBytes formOf rootOf rootRecordsOf headerOf headerSize count fieldSize width leastFrom cells
+    leafCapacity countWidth pointerSize internalCapacity subtreeCapacity totalWidth nodeCapacity depthFrom depthFor columnFrom column infoAt
+    sumKids between size below nodes leaves taken dealt children kidsOf planTree anyOf thin planDepth planned planFigures planAnswer joinKids counts betweenFrom rootRecords plan figures
 figures-hold = refl

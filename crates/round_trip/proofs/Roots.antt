@@ -1,41 +1,47 @@
--- The root is the plan's last node: its number, its address and its records; and the header's figures say the header.
+-- The root is the plan's last node: its address and its records.
 use mathlib.Core.Path.{_≡_, refl}
 use mathlib.Core.List.{List, [], _∷_, _++_}
 use Prim.Native.Nat.{ℕ, zero, suc, _+_, _-_, _*_}
+use native.Mathlib.Nat.{add-zero}
 use native.Mathlib.Omega.{arith}
-use lib.ListN.{length, length-append}
+use lib.ListN.{length, getD, length-append}
+use lib.Seq.{getD-append-add}
 use Rattle.plan.specs.Tree.{Kids, last, more, Tree, sumKids, between, count, below, nodes}
 use Rattle.plan.specs.Planned.{planned}
 use Rattle.format.specs.Bytes.{address}
-use Rattle.format.specs.Writing.{Request, formOf, depthOf, nodesOf, rootOf}
-use Rattle.format.specs.Reading.{Header, headerFigures}
-use Rattle.round_trip.specs.Trip.{headerFrom}
-use Rattle.round_trip.specs.Figures.{joinKids, counts}
-
--- The nodes' records, children first, end with the root's.
-pub counts-last : (d : ℕ) (t : Tree d) → (others : List ℕ) × (counts d t ≡ others ++ (count d t ∷ []))
-unfolding counts count
-counts-last zero n = ([], refl)
-counts-last (suc d) ts = (joinKids (counts d) ts, refl)
+use Rattle.format.specs.Writing.{Request, formOf, depthOf, nodesOf, rootOf, rootRecordsOf}
+use Rattle.round_trip.specs.Nodes.{joinKids, counts, nodeAddress, nodeRecords}
 
 length-join : {A : Type 0} (f : A → List ℕ) (g : A → ℕ) → ((t : A) → length (f t) ≡ g t) → (ts : Kids A) → length (joinKids f ts) ≡ sumKids g ts
 unfolding joinKids sumKids
 length-join f g h (last t) = h t
 length-join f g h (more t ts) = rw (length-append, h t, length-join f g h ts)
 
--- There are as many as nodes.
-pub counts-nodes : (d : ℕ) (t : Tree d) → length (counts d t) ≡ nodes d t
+-- There are as many counts as nodes.
+counts-nodes : (d : ℕ) (t : Tree d) → length (counts d t) ≡ nodes d t
 unfolding counts nodes below
 counts-nodes zero n = refl
 counts-nodes (suc d) ts = rw (length-append, length-join (counts d) (λ t. below d t + 1) (counts-nodes d) ts)
 
--- The last of k nodes is at start + (k - 1) × NS.
-pub root-last : (q : Request) → rootOf q ≡ q .start + (nodesOf q - 1) * q .ns
-unfolding rootOf nodesOf nodes address formOf
-root-last q =
-    let e : below (depthOf q) (planned (q .n) (q .rs) (q .ns) (q .ow)) + 1 - 1 ≡ below (depthOf q) (planned (q .n) (q .rs) (q .ns) (q .ow)) = omega arith in
-    rw e
+-- The last of them is the root's.
+counts-last : (d : ℕ) (t : Tree d) → getD (counts d t) (below d t) 0 ≡ count d t
+unfolding counts count nodes below
+counts-last zero n = refl
+counts-last (suc d) ts =
+    let e = length-join (counts d) (λ t. below d t + 1) (counts-nodes d) ts in
+    rw (← add-zero (sumKids (λ t. below d t + 1) ts), ← e, getD-append-add)
 
--- The figures of a header give the header back.
-pub header-from : (h : Header) → headerFrom (headerFigures h) ≡ h
-header-from h = refl
+module _ (q : Request) where
+  pub root-address : nodeAddress q (nodesOf q - 1) ≡ rootOf q
+  unfolding rootOf nodesOf nodes address formOf
+  root-address =
+      let tree = planned (q .n) (q .rs) (q .ns) (q .ow) in
+      let e : below (depthOf q) tree + 1 - 1 ≡ below (depthOf q) tree = omega arith in
+      rw e
+
+  pub root-records : nodeRecords q (nodesOf q - 1) ≡ rootRecordsOf q
+  unfolding nodeRecords rootRecordsOf nodesOf nodes
+  root-records =
+      let tree = planned (q .n) (q .rs) (q .ns) (q .ow) in
+      let e : below (depthOf q) tree + 1 - 1 ≡ below (depthOf q) tree = omega arith in
+      rw (e, counts-last (depthOf q) tree)

@@ -1,25 +1,16 @@
 -- The figures of document 01 that are marked P, as one table: what the definitions give, beside what the document says.
 use Prim.Native.Nat.{ℕ, zero, suc, _+_}
-use mathlib.Core.List.{List, [], _∷_, _++_}
+use mathlib.Core.List.{List, [], _∷_}
 use lib.ListN.{length, take}
 use Rattle.checksum.specs.Lookup3.{lookup3}
 use Rattle.fields.specs.Numbers.{width}
 use Rattle.refusal.specs.Answer.{cells}
 use Rattle.node_info.specs.Table.{infoAt}
-use Rattle.plan.specs.Tree.{Kids, last, more, Tree, between, size}
+use Rattle.plan.specs.Tree.{Kids, last, more, Tree, size}
 use Rattle.plan.specs.Planned.{planDepth, planned, planAnswer}
 use Rattle.format.specs.Writing.{headerOf}
 use Rattle.btree_v2_write.specs.Call.{asked}
-
--- The lists that f gives of the children, one after another.
-unfoldable pub joinKids : {A : Type 0} → (A → List ℕ) → Kids A → List ℕ
-joinKids f (last t) = f t
-joinKids f (more t ts) = f t ++ joinKids f ts
-
--- Each node's own records, in the order in which nodes are numbered: children first, root last.
-unfoldable pub counts : (d : ℕ) → Tree d → List ℕ
-counts zero n = n ∷ []
-counts (suc d) ts = joinKids (counts d) ts ++ (between ts ∷ [])
+use Rattle.round_trip.specs.Nodes.{counts}
 
 -- The numbers of the records between children, if the first child's records begin with record r and each has size s.
 unfoldable pub betweenFrom : {A : Type 0} → (A → ℕ) → ℕ → Kids A → List ℕ

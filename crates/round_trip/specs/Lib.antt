@@ -1,3 +1,4 @@
 -- The definitions that the contract of the three calls cites, and the table of figures.
-pub mod Trip
+pub mod Nodes
+pub mod ThreeCalls
 pub mod Figures

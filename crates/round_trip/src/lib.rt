@@ -1,7 +1,7 @@
 // A write, the header reader and the collector, one after another: demand 3 as one claim on the three calls.
 
 ghost use Rattle.btree_v2_write.specs.Call.{asked};
-ghost use Rattle.round_trip.specs.Trip.{Tripped};
+ghost use Rattle.round_trip.specs.ThreeCalls.{Answered};
 use btree_v2::Collected;
 use btree_v2::Tally;
 use btree_v2_header::BTreeV2Header;
@@ -32,7 +32,7 @@ pub fn round_trip(
     place: u64,
     output: &mut [u8],
 ) -> RoundTrip
-    ensures { λ r. ⌜ Tripped (asked «tree_type» «record_count» «record_size» «node_size» «offset_size» «length_size» start) (record { records = now (records .entry); header = now (header .entry); image = now (image .entry); file = now (file .entry); place = place; output = now (output .entry) }) r (now (header .exit)) (now (image .exit)) (now (output .exit)) ⌝ }
+    ensures { λ r. ⌜ Answered (asked «tree_type» «record_count» «record_size» «node_size» «offset_size» «length_size» start) (record { records = now (records .entry); header = now (header .entry); image = now (image .entry); file = now (file .entry); place = place; output = now (output .entry) }) r (now (header .exit)) (now (image .exit)) (now (output .exit)) ⌝ }
 {
     let written = btree_v2_write::write(
         tree_type,

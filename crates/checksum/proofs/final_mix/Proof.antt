@@ -15,4 +15,11 @@ final-mix-spec =
     (λ c κs. search needs)
     (λ c κs. search needs)
     (λ c κs. search needs)
-    (λ c. final-mixed-is _ _ _ _ _ _ _ _ (c .before .before .before .before .before .before .final-line .ensures) (c .before .before .before .before .before .final-line2 .ensures) (c .before .before .before .before .final-line3 .ensures) (c .before .before .before .final-line4 .ensures) (c .before .before .final-line5 .ensures) (c .before .final-line6 .ensures) (c .final-line7 .ensures)))
+    (λ c.
+    let c6 = c .before in
+    let c5 = c6 .before in
+    let c4 = c5 .before in
+    let c3 = c4 .before in
+    let c2 = c3 .before in
+    final-mixed-is _ (c2 .before .final-line .ensures) (c2 .final-line2 .ensures) (c3 .final-line3 .ensures)
+    (c4 .final-line4 .ensures) (c5 .final-line5 .ensures) (c6 .final-line6 .ensures) (c .final-line7 .ensures)))

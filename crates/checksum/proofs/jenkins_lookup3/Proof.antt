@@ -25,6 +25,9 @@ jenkins-lookup3-spec =
     (λ c κs. search needs)
     (λ c. search needs)
     (λ c. search needs)
-    (λ c. left-turn _ _ _ _ _ (c .before .before .before .loop .inv) (c .before .before .loop-test .taken) (c .before .add-block .ensures) (c .mix .ensures))
+    (λ c.
+    let added = c .before in
+    let turn = added .before in
+    left-turn _ _ _ _ _ (turn .before .loop .inv) (turn .loop-test .taken) (added .add-block .ensures) (c .mix .ensures))
     (λ c κs. search needs)
     (λ c. search left-end))

@@ -14,4 +14,10 @@ mix-spec =
     (λ c κs. search needs)
     (λ c κs. search needs)
     (λ c κs. search needs)
-    (λ c. mixed-is _ _ _ _ _ _ _ (c .before .before .before .before .before .mix-line .ensures) (c .before .before .before .before .mix-line2 .ensures) (c .before .before .before .mix-line3 .ensures) (c .before .before .mix-line4 .ensures) (c .before .mix-line5 .ensures) (c .mix-line6 .ensures)))
+    (λ c.
+    let c5 = c .before in
+    let c4 = c5 .before in
+    let c3 = c4 .before in
+    let c2 = c3 .before in
+    mixed-is _ (c2 .before .mix-line .ensures) (c2 .mix-line2 .ensures) (c3 .mix-line3 .ensures) (c4 .mix-line4 .ensures)
+    (c5 .mix-line5 .ensures) (c .mix-line6 .ensures)))

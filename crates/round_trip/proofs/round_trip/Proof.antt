@@ -1,5 +1,5 @@
 -- By the header reader's answer.
-use Rattle.round_trip.proofs.Claims.{tripped-parsed, tripped-refused}
+use Rattle.round_trip.proofs.Claims.{answered-parsed, answered-refused}
 use borrow.Author.Needs.{needs}
 use Rattle.round_trip.proofs.round_trip.Statement.{statement}
 use Rattle.round_trip.proofs.round_trip.Tie as tie
@@ -16,7 +16,20 @@ round-trip-spec =
     (λ c. search needs)
     (λ c. search needs)
     (λ c. search needs)
-    (λ c. tripped-parsed _ _ (c .before .before .before .before .before .before .before .before .before .before .before .before .before .before .before .before .before .before .before .before .fits .record-size .fits) _ _ _ (c .before .before .before .before .before .before .before .before .before .before .before .before .write .ensures) _ _ _ _ (c .before .before .before .before .before .parsed .given .1) (c .before .before .before .before .before .before .before .parse .ensures) (c .before .before .collect-btree-v2-records .ensures .0) (c .before .before .collect-btree-v2-records .ensures .1))
+    (λ c.
+    let collect = c .before .before in
+    let parsed = collect .before .before .before in
+    let parse = parsed .before .before in
+    let write = parse .before .before .before .before .before in
+    let entry = write .before .before .before .before .before .before .before .before in
+    answered-parsed (record { small = entry .fits .record-size .fits; wrote = write .write .ensures; told = parse .parse .ensures }) _ _ _
+    (parsed .parsed .given .1) (collect .collect-btree-v2-records .ensures .0) (collect .collect-btree-v2-records .ensures .1))
     (λ c. search needs)
     (λ c. search needs)
-    (λ c. tripped-refused _ _ (c .before .before .before .before .before .before .before .before .before .before .before .before .before .before .before .before .fits .record-size .fits) _ _ _ (c .before .before .before .before .before .before .before .before .write .ensures) _ _ (c .before .parsed2 .given .1) (c .before .before .before .parse .ensures)))
+    (λ c.
+    let parsed = c .before in
+    let parse = parsed .before .before in
+    let write = parse .before .before .before .before .before in
+    let entry = write .before .before .before .before .before .before .before .before in
+    answered-refused (record { small = entry .fits .record-size .fits; wrote = write .write .ensures; told = parse .parse .ensures }) _
+    (parsed .parsed2 .given .1)))

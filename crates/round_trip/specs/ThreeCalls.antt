@@ -1,21 +1,23 @@
 -- A write, the header reader and the collector, one after another: what they answer and leave, and the complete return of records as a claim on
--- the three calls. From document 01, "Collecting".
+-- what the three calls returned. From document 01, "Collecting".
 use mathlib.Core.Path.{_≡_}
-use mathlib.Core.List.{List, [], _∷_, _++_}
-use Prim.Native.Nat.{ℕ, _+_, _*_, _≤_, _<_}
+use mathlib.Core.List.{List, [], _∷_}
+use Prim.Native.Nat.{ℕ, _+_, _-_, _*_, _≤_}
 use lib.ListN.{length, getD, take, drop}
 use Rattle.fields.specs.Numbers.{part}
 use Rattle.refusal.specs.Answer.{Answer, accepted, refused, verdictOf}
-use Rattle.plan.specs.Tree.{leaves}
-use Rattle.plan.specs.Planned.{planned, planAnswerOf}
+use Rattle.plan.specs.declared.BTreeV2Plan.{BTreeV2Plan}
+use Rattle.plan.specs.declared.PlanAnswer.the-variants.{Planned}
+use Rattle.plan.specs.Planned.{planAnswerOf}
 use Rattle.format.specs.Writing
-use Rattle.format.specs.Writing.{Request, depthOf, nodesOf, rootOf, rootRecordsOf, headerExit, imageExit}
+use Rattle.format.specs.Writing.{Request, headerExit, imageExit}
 use Rattle.format.specs.Walk.{Run, stopped, noCounts}
 use Rattle.format.specs.Reading
 use Rattle.format.specs.Reading.{Header, runCells, runOutput}
 use Rattle.btree_v2_header.specs.Answers.{headerAnswerOf}
 use Rattle.btree_v2.specs.Answers.{collectedCells}
 use Rattle.round_trip.specs.declared.RoundTrip.{RoundTrip}
+use Rattle.round_trip.specs.Nodes.{nodeAddress, nodeRecords}
 
 -- What the three calls are lent: the record list, the header buffer, the image buffer, the file, the place of the header in it, and the output.
 pub record Lent : Type 0 where
@@ -48,32 +50,34 @@ onHeader (refused number values) file ow output = stopped number values noCounts
 unfoldable pub readBack : Request → Lent → Run
 readBack q s = onHeader (Reading.parsed (s .file) (s .place) (q .ow) (q .lw)) (s .file) (q .ow) (s .output)
 
--- The file holds, at the place, the header's bytes that the write left, and from start on the nodes' bytes that it left.
-pub record Holds (q : Request) (file : List ℕ) (place : ℕ) (headerLast imageLast : List ℕ) : Type 0 where
+-- The file holds, at the place, the header's bytes that the write left, and from start on the bytes of its nodes, NS for each of the nodes that
+-- it answered.
+pub record Holds (q : Request) (p : BTreeV2Plan) (file : List ℕ) (place : ℕ) (headerLast imageLast : List ℕ) : Type 0 where
   pub header : part file place (22 + q .ow + q .lw) ≡ take (22 + q .ow + q .lw) headerLast
-  pub nodes : part file (q .start) (nodesOf q * q .ns) ≡ take (nodesOf q * q .ns) imageLast
+  pub nodes : part file (q .start) (p .nodes * q .ns) ≡ take (p .nodes * q .ns) imageLast
 
--- What demand 3 lists: both readers accept; the header is as written; the records written stand at the front of the output and its other bytes are
--- as they were; N records are put out; leaves are the plan's and one more than the records from internal nodes; leaves and internal nodes together
--- are the plan's nodes, at most N.
-pub record Complete (q : Request) (recs out : List ℕ) (r : RoundTrip) (outputLast : List ℕ) : Type 0 where
+-- What demand 3 lists, of the plan p that the write answered: the header as written, its root the last of the nodes; collecting accepted; the
+-- records written at the front of the output, and its other bytes as they were; N records put out; leaves as answered, one more than the
+-- records from internal nodes; leaves and internal nodes together the nodes answered, at most N.
+pub record Complete (q : Request) (p : BTreeV2Plan) (recs out : List ℕ) (r : RoundTrip) (outputLast : List ℕ) : Type 0 where
   pub header : headerAnswerOf (r .header)
-      ≡ accepted (q .treeType ∷ q .ns ∷ q .rs ∷ depthOf q ∷ rootOf q ∷ rootRecordsOf q ∷ q .n ∷ [])
+      ≡ accepted (q .treeType ∷ q .ns ∷ q .rs ∷ p .depth ∷ nodeAddress q (p .nodes - 1) ∷ nodeRecords q (p .nodes - 1) ∷ q .n ∷ [])
   pub collected : verdictOf (r .collected .verdict) ≡ accepted []
-  pub output : outputLast ≡ recs ++ drop (q .n * q .rs) out
-  pub count : r .collected .tally .records ≡ q .n
-  pub leavesPlanned : r .collected .tally .leaves ≡ leaves (depthOf q) (planned (q .n) (q .rs) (q .ns) (q .ow))
-  pub leavesInner : r .collected .tally .leaves ≡ r .collected .tally .inner + 1
-  pub nodesPlanned : r .collected .tally .leaves + r .collected .tally .internals ≡ nodesOf q
-  pub nodesFew : nodesOf q ≤ q .n
+  pub front : take (q .n * q .rs) outputLast ≡ recs
+  pub rest : drop (q .n * q .rs) outputLast ≡ drop (q .n * q .rs) out
+  pub putOut : r .collected .tally .records ≡ q .n
+  pub leaves : r .collected .tally .leaves ≡ p .leaves
+  pub oneMore : r .collected .tally .leaves ≡ r .collected .tally .inner + 1
+  pub allNodes : r .collected .tally .leaves + r .collected .tally .internals ≡ p .nodes
+  pub atMost : p .nodes ≤ q .n
 
 -- The three calls: the answers and the buffers at exit are those of the three definitions; and demand 3.
-pub record Tripped (q : Request) (s : Lent) (r : RoundTrip) (headerLast imageLast outputLast : List ℕ) : Type 0 where
+pub record Answered (q : Request) (s : Lent) (r : RoundTrip) (headerLast imageLast outputLast : List ℕ) : Type 0 where
   pub written : planAnswerOf (r .written) ≡ Writing.written q (s .records) (s .header) (s .image)
   pub headerLeft : headerLast ≡ headerExit q (s .records) (s .header) (s .image)
   pub imageLeft : imageLast ≡ imageExit q (s .records) (s .header) (s .image)
   pub parsed : headerAnswerOf (r .header) ≡ Reading.parsed (s .file) (s .place) (q .ow) (q .lw)
   pub collected : collectedCells (r .collected) ≡ runCells (readBack q s)
   pub outputLeft : outputLast ≡ runOutput (readBack q s)
-  pub complete : (figures : List ℕ) → planAnswerOf (r .written) ≡ accepted figures → 1 ≤ q .n
-      → Holds q (s .file) (s .place) headerLast imageLast → q .n * q .rs ≤ length (s .output) → Complete q (s .records) (s .output) r outputLast
+  pub complete : (p : BTreeV2Plan) → r .written ≡ Planned p → 1 ≤ q .n → Holds q p (s .file) (s .place) headerLast imageLast
+      → q .n * q .rs ≤ length (s .output) → Complete q p (s .records) (s .output) r outputLast
