@@ -120,7 +120,7 @@ module _ (q : Request) where
       imaged : Imaged (formOf q) (q .start) recs file (depthOf q) tree 0 0
       unfolding address formOf nodesOf imageOf rootOf
       imaged =
-          let e : q .start + 0 * q .ns ≡ q .start = omega arith in
+          let e : address (formOf q) (q .start) 0 ≡ q .start = omega arith in
           record {
             fits = fits;
             room = room;

@@ -21,9 +21,9 @@ use Rattle.format.specs.Look.{lookTest, lookBytes, recordOf, putEach, re
 use Rattle.format.proofs.Passing.{passed, there}
 
 -- Record i below the count, and from the count on.
-picked : (b : Bool) (x : List ℕ) → b ≡ true → pick b x [] ≡ x
-picked true x e = refl
-picked false x e = cc
+picked : (b : Bool) (x y : List ℕ) → b ≡ true → pick b x y ≡ x
+picked true x y e = refl
+picked false x y e = cc
 
 unpicked : (b : Bool) (x : List ℕ) → b ≡ false → pick b x [] ≡ []
 unpicked true x e = cc
@@ -32,7 +32,7 @@ unpicked false x e = refl
 module _ (bytes : List ℕ) (rs n i : ℕ) where
   record-below : i < n → recordOf bytes rs n i ≡ part bytes (i * rs) rs
   unfolding recordOf
-  record-below h = picked (ltb i n) (part bytes (i * rs) rs) (lt-ltb i n h)
+  record-below h = picked (ltb i n) (part bytes (i * rs) rs) _ (lt-ltb i n h)
 
   record-past : n ≤ i → recordOf bytes rs n i ≡ []
   unfolding recordOf
