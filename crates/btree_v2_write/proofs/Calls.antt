@@ -31,7 +31,7 @@ use Rattle.format.specs.Bytes.{Form, address, headerBytes, image}
 use Rattle.format.specs.Writing.{Request, formOf, depthOf, nodesOf, imageOf, rootOf, rootRecordsOf, headerOf, written, headerExit, imageExit}
 use Rattle.format.proofs.Lengths.{Fit}
 use Rattle.format.proofs.Accepted.{Accepts, Roomy, accepts, roomy, plan-accepted}
-use Rattle.format.proofs.Collected.{fits}
+use Rattle.format.proofs.Fitting.{fits}
 use Rattle.format.proofs.HeaderReturn.{length-headerOf}
 use Rattle.format.proofs.Fronts.{header-left, image-left}
 use Rattle.format.proofs.Outcomes.{over-stored, header-put, image-put}

@@ -29,135 +29,52 @@ use Rattle.format.proofs.Lengths.{nodeLength, Fit, Room, rows-all, leng
 use Rattle.format.proofs.Sound.{treeTally}
 use Rattle.format.proofs.Image.{sourceFor, Imaged, collecting-passes, image-walks}
 
-module _ (q : Request) where
-  -- The capacities of a node and of a subtree by the level, and the planned tree.
-  abbrev most : ℕ → ℕ
-  most = nodeCapacity (q .ns) (q .rs) (q .ow)
+use Rattle.format.proofs.Fitting.{tree, positive, plan, sized, filled, fits, root-some, deep, room, image-long, root-held}
 
-  abbrev whole : ℕ → ℕ
-  whole = subtreeCapacity (q .ns) (q .rs) (q .ow)
-
-  abbrev tree : Tree (depthOf q)
-  tree = planned (q .n) (q .rs) (q .ns) (q .ow)
-
-  -- A node within the capacities fits the node size, and what its pointer tells fits the pointer's fields.
-  module _ (plan : Plannable (q .n) (q .rs) (q .ns) (q .ow)) where
-    abbrev Held : (u : ℕ) → Tree u → Type 0
-    Held u t = (count u t ≤ most u) × (size u t ≤ whole u)
-
-    low : 10 ≤ q .ns
-    low = omega arith
-
-    high : q .ns ≤ 65536
-    high = omega arith
-
-    positive : 0 < q .rs
-    positive = omega arith
-
-    node-fits : (u : ℕ) (t : Tree u) → Held u t → 1 ≤ count u t → nodeLength (formOf q) u (count u t) ≤ q .ns
-    unfolding formOf pointerSize
-    node-fits zero t w f = leaf-bytes (q .ns) (q .rs) (q .ow) (count 0 t) low (w .0)
-    node-fits (suc u) t w f = internal-bytes (q .ns) (q .rs) (q .ow) u (count (suc u) t) (omega arith) (w .0)
-
-    records-fit : (u k : ℕ) → nodeLength (formOf q) u k ≤ q .ns → k < 65536
-    unfolding formOf
-    records-fit zero k h = omega (arith, high, mul-le-mul-left k positive)
-    records-fit (suc u) k h = omega (arith, high, mul-le-mul-left k positive)
-
-    fit : (u : ℕ) (t : Tree u) → Held u t → 1 ≤ count u t → Fit (formOf q) u t
-    unfolding formOf
-    fit u t w f =
+module _ (q : Request) (recs : List ℕ) (a : Accepts q recs) (some : 1 ≤ q .n) where
+  -- Its nodes stand in the file, and there is room in the output.
+  module _ (file out : List ℕ) (stands : part file (q .start) (nodesOf q * q .ns) ≡ imageOf q recs) (long : q .n * q .rs ≤ length out) where
+    imaged : Imaged (formOf q) (q .start) recs file (depthOf q) (tree q) 0 0
+    unfolding address formOf nodesOf imageOf rootOf
+    imaged =
+        let e : address (formOf q) (q .start) 0 ≡ q .start = omega arith in
         record {
-          node = node-fits u t w f;
-          records = count-fits (q .ns) (q .rs) (q .ow) positive (omega (arith, high)) u (count u t) (w .0);
-          small = records-fit u (count u t) (node-fits u t w f);
-          total = λ h. total-fits (q .ns) (q .rs) (q .ow) u (size u t) h (w .1);
+          fits = (fits q recs a some);
+          room = (room q recs a some);
+          reach = rw zero-add (root-fits q recs a);
+          stands = rw (length-image (formOf q) (q .start) recs (depthOf q) (tree q) 0 0 (fits q recs a some) (room q recs a some), e) stands;
         }
 
-  -- An accepted write of one record or more.
-  module _ (recs : List ℕ) (a : Accepts q recs) (some : 1 ≤ q .n) where
-    pub plan : Plannable (q .n) (q .rs) (q .ns) (q .ow)
-    plan = accepted-plannable (q .n) (q .rs) (q .ns) (q .ow) (a .figures) (a .plan) .0
+    walks : nodeRun (sourceFor (formOf q) file) (collectTests (sourceFor (formOf q) file)) (depthOf q) (rootOf q) (rootRecordsOf q) noCounts out
+        ≡ fine (treeTally (depthOf q) (tree q)) (recs ++ drop (q .n * q .rs) out)
+    unfolding rootOf rootRecordsOf formOf
+    walks =
+        let passes = collecting-passes (formOf q) (q .start) recs file lookup3-lt (a .offset) in
+        let w = image-walks (formOf q) (q .start) recs file (collectTests (sourceFor (formOf q) file)) passes (depthOf q) (tree q) 0 0 imaged noCounts out (rw (zero-add, (sized q recs a some)) long) in
+        let all = rows-all (formOf q) (q .start) recs (size (depthOf q) (tree q)) (rw (sized q recs a some) (a .records)) in
+        simp (zero-add, zero-mul, all, stored-is, a .records) at w
 
-    sized : size (depthOf q) tree ≡ q .n
-    unfolding planned
-    sized = plan-size whole (depthOf q) (q .n) (plan .thick some)
+    pub collects : collected file (headerWritten q) (q .ow) out ≡ fine (treeTally (depthOf q) (tree q)) (recs ++ drop (q .n * q .rs) out)
+    unfolding collected headerWritten sourceOf formOf
+    collects =
+        let root = (root-some q recs a some) in
+        rw (ne-eqb (q .n) 0 (λ e. omega arith), ne-eqb (rootRecordsOf q) 0 (λ e. omega arith), lt-ltb 0 (q .rs) (positive q (plan q recs a some)), le-leb (depthOf q) 32 (deep q recs a some))
+        walks
 
-    filled : Filled (depthOf q) tree
-    unfolding planned
-    filled = plan-filled whole (depthOf q) (q .n) (plan .thick some)
-
-    within : Within most whole (depthOf q) tree
-    unfolding planned planDepth
-    within =
-        plan-within whole most (depthOf q) (q .n) (depth-levels (q .n) (q .rs) (q .ns) (q .ow) (positive plan) (plan .enough)) (plan .thick some) (plan .enough)
-
-    pub fits : Everywhere (Fit (formOf q)) (depthOf q) tree
-    fits = everywhere-both (Held plan) (λ u t. 1 ≤ count u t) (Fit (formOf q)) (fit plan) (depthOf q) tree within filled
-
-    pub root-some : 1 ≤ rootRecordsOf q
-    unfolding rootRecordsOf
-    root-some = everywhere-root (λ u t. 1 ≤ count u t) (depthOf q) tree filled
-
-    pub root-held : rootRecordsOf q ≤ leafCapacity (q .ns) (q .rs)
-    unfolding rootRecordsOf
-    root-held = le-trans (everywhere-root (Held plan) (depthOf q) tree within .0) (node-le-leaf (q .ns) (q .rs) (q .ow) (positive plan) (depthOf q))
-
-    pub deep : depthOf q ≤ 32
-    unfolding planDepth
-    deep = depth-le (q .ns) (q .rs) (q .ow) (q .n)
-
-    room : Room (formOf q) (q .start) recs 0 (size (depthOf q) tree)
-    unfolding formOf
-    room = rw (zero-add, sized, a .records) (le-refl (q .n * q .rs))
-
-    pub image-long : length (imageOf q recs) ≡ nodesOf q * q .ns
-    unfolding imageOf nodesOf formOf
-    image-long = length-image (formOf q) (q .start) recs (depthOf q) tree 0 0 fits room
-
-    -- Its nodes stand in the file, and there is room in the output.
-    module _ (file out : List ℕ) (stands : part file (q .start) (nodesOf q * q .ns) ≡ imageOf q recs) (long : q .n * q .rs ≤ length out) where
-      imaged : Imaged (formOf q) (q .start) recs file (depthOf q) tree 0 0
-      unfolding address formOf nodesOf imageOf rootOf
-      imaged =
-          let e : address (formOf q) (q .start) 0 ≡ q .start = omega arith in
-          record {
-            fits = fits;
-            room = room;
-            reach = rw zero-add (root-fits q recs a);
-            stands = rw (length-image (formOf q) (q .start) recs (depthOf q) tree 0 0 fits room, e) stands;
-          }
-
-      walks : nodeRun (sourceFor (formOf q) file) (collectTests (sourceFor (formOf q) file)) (depthOf q) (rootOf q) (rootRecordsOf q) noCounts out
-          ≡ fine (treeTally (depthOf q) tree) (recs ++ drop (q .n * q .rs) out)
-      unfolding rootOf rootRecordsOf formOf
-      walks =
-          let passes = collecting-passes (formOf q) (q .start) recs file lookup3-lt (a .offset) in
-          let w = image-walks (formOf q) (q .start) recs file (collectTests (sourceFor (formOf q) file)) passes (depthOf q) tree 0 0 imaged noCounts out (rw (zero-add, sized) long) in
-          let all = rows-all (formOf q) (q .start) recs (size (depthOf q) tree) (rw sized (a .records)) in
-          simp (zero-add, zero-mul, all, stored-is, a .records) at w
-
-      pub collects : collected file (headerWritten q) (q .ow) out ≡ fine (treeTally (depthOf q) tree) (recs ++ drop (q .n * q .rs) out)
-      unfolding collected headerWritten sourceOf formOf
-      collects =
-          let root = root-some in
-          rw (ne-eqb (q .n) 0 (λ e. omega arith), ne-eqb (rootRecordsOf q) 0 (λ e. omega arith), lt-ltb 0 (q .rs) (positive plan), le-leb (depthOf q) 32 deep)
-          walks
-
-      -- With the header read back, all is returned.
-      pub returned : (o : ℕ) → parsed file o (q .ow) (q .lw) ≡ accepted (headerFigures (headerWritten q)) → Returned q recs file o out
-      unfolding nodesOf
-      returned o h =
-          record {
-            counts = treeTally (depthOf q) tree;
-            header = h;
-            output = collects;
-            records = sized;
-            leavesPlanned = refl;
-            oneMore = leaves-inner (depthOf q) tree;
-            allNodes = sym (nodes-kinds (depthOf q) tree);
-            atMost = rw sized at (nodes-le-size (depthOf q) tree filled);
-          }
+    -- With the header read back, all is returned.
+    pub returned : (o : ℕ) → parsed file o (q .ow) (q .lw) ≡ accepted (headerFigures (headerWritten q)) → Returned q recs file o out
+    unfolding nodesOf
+    returned o h =
+        record {
+          counts = treeTally (depthOf q) (tree q);
+          header = h;
+          output = collects;
+          records = (sized q recs a some);
+          leavesPlanned = refl;
+          oneMore = leaves-inner (depthOf q) (tree q);
+          allNodes = sym (nodes-kinds (depthOf q) (tree q));
+          atMost = rw (sized q recs a some) at (nodes-le-size (depthOf q) (tree q) (filled q recs a some));
+        }
 
 -- The same, of the write's own answer.
 pub written-returned : (q : Request) (recs headerEntry imageEntry figures file out : List ℕ) (o : ℕ)

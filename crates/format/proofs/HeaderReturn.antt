@@ -25,7 +25,7 @@ use Rattle.format.specs.Return.{headerWritten}
 use Rattle.format.proofs.Standing.{Stand, stand-left, stand-right, stand-end, stand-num}
 use Rattle.format.proofs.Passing.{same-refl, checksum-passes}
 use Rattle.format.proofs.Accepted.{Accepts, count-fits, root-fits}
-use Rattle.format.proofs.Collected.{root-held}
+use Rattle.format.proofs.Fitting.{root-held}
 
 module _ (g : Form) (lw depth root rootRecords n : ℕ) where
   -- The header's bytes from the node size on, and all but its checksum.

@@ -7,6 +7,7 @@ pub mod Looking
 pub mod Sound
 pub mod Lengths
 pub mod Image
+pub mod Fitting
 pub mod Collected
 pub mod HeaderReturn
 pub mod Fronts

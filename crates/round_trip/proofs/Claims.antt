@@ -21,7 +21,7 @@ use Rattle.format.specs.Reading as Reading
 use Rattle.format.specs.Reading.{Header, headerFigures, parsed, collected, runCells, runOutput, countCells}
 use Rattle.format.specs.Return.{Stands, headerWritten, Returned}
 use Rattle.format.proofs.Accepted.{Accepts, accepts, plan-accepted}
-use Rattle.format.proofs.Collected.{image-long}
+use Rattle.format.proofs.Fitting.{image-long}
 use Rattle.format.proofs.HeaderReturn.{length-headerOf}
 use Rattle.format.proofs.Outcomes.{header-put, image-put}
 use Rattle.format.proofs.Returned.{returns}
