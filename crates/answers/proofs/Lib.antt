@@ -1,2 +1,3 @@
 -- What stands in the caller's array.
 pub mod Putting
+mod Table

@@ -14,8 +14,8 @@ use Rattle.btree_v2_header.specs.declared.BTreeV2Header.{BTreeV2Header}
 use Rattle.btree_v2_header.specs.declared.HeaderAnswer.{HeaderAnswer}
 use Rattle.btree_v2_header.specs.declared.HeaderAnswer.the-variants as header
 use Rattle.btree_v2_header.specs.Answers.{headerAnswerOf}
-use Rattle.btree_v2.specs.declared.Collected.{Collected}
-use Rattle.btree_v2.specs.Answers.{collectedCells}
+use Rattle.btree_v2_collect.specs.declared.Collected.{Collected}
+use Rattle.btree_v2_collect.specs.Answers.{collectedCells}
 
 -- The plan's figures, or its refusal.
 pub plan-put : {p : PlanAnswer} {q : BTreeV2Plan} → p ≡ plan.Planned q

@@ -1,6 +1,2 @@
--- The laws that the crate's proofs cite.
-mod Calls
-mod Holding
-mod Nodes
-mod Putting
-mod Steps
+-- The laws that the functions' proofs cite.
+mod Records

@@ -1,19 +1,166 @@
-// Collecting the records of a version 2 B-tree.
+// The calls as C functions, on numbers and slices. Each fills its whole answer, an array of numbers behind one pointer: the refusal's
+// number, 0 where the call is accepted, then the figures or the refusal's values, then zeros.
 
 ghost use mathlib.Core.Path.{_≡_};
+ghost use Rattle.refusal.specs.Answer.{cells};
+ghost use Rattle.node_info.specs.Table.{tabled};
+ghost use Rattle.plan.specs.Planned.{planAnswer};
+ghost use Rattle.write_checks.specs.Writing.{written, headerExit, imageExit};
+ghost use Rattle.btree_v2_header.specs.Header.{parsed};
+ghost use Rattle.btree_v2_collect.specs.Collect.{collected, runCells, runOutput};
+ghost use Rattle.btree_v2_leaf_view.specs.Look.{recordAnswer, recordExit};
+ghost use Rattle.btree_v2_write.specs.Call.{asked};
+ghost use Rattle.btree_v2.specs.Given.{given};
+use btree_v2_header::BTreeV2Header;
+use node_info::NodeInfo;
+use plan::BTreeV2Plan;
+use refusal::Refusal;
 use refusal::Verdict;
 
-pub mod collect;
-
-// Records put out, leaves read, internal nodes read, and records from internal nodes, each held at 2^64 - 1.
-pub struct Tally {
-    pub records: u64,
-    pub leaves: u64,
-    pub internals: u64,
-    pub inner: u64,
+// The capacity table up to a depth: width of a record count, and for the levels 0 to 32 the records of a node, then those of a subtree,
+// then the width of a subtree's total.
+#[no_mangle]
+pub extern "C" fn btree_v2_node_info(
+    node_size: u32,
+    record_size: u16,
+    offset_size: u8,
+    depth: u16,
+    answer: &mut [u64; 101],
+)
+    ensures { λ _. ⌜ now (answer .exit) ≡ cells 101 (tabled «node_size» «record_size» «offset_size» depth) ⌝ }
+{
+    let computed = NodeInfo::compute(node_size, record_size, offset_size, depth);
+    answers::put_node_info(answer, computed);
 }
 
-pub struct Collected {
-    pub verdict: Verdict,
-    pub tally: Tally,
+// The plan: depth, nodes, leaves, image size.
+#[no_mangle]
+pub extern "C" fn btree_v2_plan(
+    record_count: u64,
+    record_size: u16,
+    node_size: u32,
+    offset_size: u8,
+    answer: &mut [u64; 5],
+)
+    ensures { λ _. ⌜ now (answer .exit) ≡ cells 5 (planAnswer «record_count» «record_size» «node_size» «offset_size») ⌝ }
+{
+    let planned = BTreeV2Plan::new(record_count, record_size, node_size, offset_size);
+    answers::put_plan(answer, planned);
+}
+
+// A tree written: the header, the image, and the answer as the plan's.
+#[no_mangle]
+pub extern "C" fn btree_v2_write(
+    tree_type: u8,
+    record_count: u64,
+    record_size: u16,
+    node_size: u32,
+    offset_size: u8,
+    length_size: u8,
+    start: u64,
+    records: &[u8],
+    header: &mut [u8],
+    image: &mut [u8],
+    answer: &mut [u64; 5],
+)
+    ensures answered { λ _. ⌜ now (answer .exit) ≡ cells 5 (written (asked «tree_type» «record_count» «record_size» «node_size» «offset_size» «length_size» start) (now (records .entry)) (now (header .entry)) (now (image .entry))) ⌝ }
+    ensures headerLeft { λ _. ⌜ now (header .exit) ≡ headerExit (asked «tree_type» «record_count» «record_size» «node_size» «offset_size» «length_size» start) (now (records .entry)) (now (header .entry)) (now (image .entry)) ⌝ }
+    ensures imageLeft { λ _. ⌜ now (image .exit) ≡ imageExit (asked «tree_type» «record_count» «record_size» «node_size» «offset_size» «length_size» start) (now (records .entry)) (now (header .entry)) (now (image .entry)) ⌝ }
+{
+    let written = btree_v2_write::write(
+        tree_type,
+        record_count,
+        record_size,
+        node_size,
+        offset_size,
+        length_size,
+        start,
+        records,
+        header,
+        image,
+    );
+    answers::put_plan(answer, written);
+}
+
+// The header at an offset of a file: type, node size, record size, depth, root's address and records, records in all.
+#[no_mangle]
+pub extern "C" fn btree_v2_parse(
+    file: &[u8],
+    offset: u64,
+    offset_size: u8,
+    length_size: u8,
+    answer: &mut [u64; 8],
+)
+    ensures { λ _. ⌜ now (answer .exit) ≡ cells 8 (parsed (now (file .entry)) offset «offset_size» «length_size») ⌝ }
+{
+    let parsed = BTreeV2Header::parse(file, offset, offset_size, length_size);
+    answers::put_header(answer, parsed);
+}
+
+// The records of a header's tree put out. The answer has the refusal's number and two values, zeros where the call is accepted, and then,
+// refused or not, records put out, leaves, internal nodes, and records from internal nodes.
+#[no_mangle]
+pub extern "C" fn btree_v2_collect(
+    file: &[u8],
+    tree_type: u8,
+    node_size: u32,
+    record_size: u16,
+    depth: u16,
+    root_address: u64,
+    root_records: u16,
+    total_records: u64,
+    offset_size: u8,
+    output: &mut [u8],
+    answer: &mut [u64; 7],
+)
+    ensures answered { λ _. ⌜ now (answer .exit) ≡ runCells (collected (now (file .entry)) (given «tree_type» «node_size» «record_size» depth «root_address» «root_records» «total_records») «offset_size» (now (output .entry))) ⌝ }
+    ensures outputLeft { λ _. ⌜ now (output .exit) ≡ runOutput (collected (now (file .entry)) (given «tree_type» «node_size» «record_size» depth «root_address» «root_records» «total_records») «offset_size» (now (output .entry))) ⌝ }
+{
+    let header = BTreeV2Header {
+        tree_type,
+        node_size,
+        record_size,
+        depth,
+        root_node_address: root_address,
+        num_records_in_root: root_records,
+        total_records,
+    };
+    let collected = btree_v2_collect::collect::collect_btree_v2_records(
+        file,
+        header,
+        offset_size,
+        output,
+    );
+    answers::put_collected(answer, collected);
+}
+
+// Record `index` of a leaf, copied to the front of the output: its length, 0 where the index is not below the count. A record has bytes
+// where the leaf passes its tests, so only without any they are asked again, for the refusal.
+#[no_mangle]
+pub extern "C" fn btree_v2_leaf_record(
+    file: &[u8],
+    address: u64,
+    count: u16,
+    record_size: u16,
+    index: u64,
+    output: &mut [u8],
+    answer: &mut [u64; 3],
+)
+    ensures answered { λ _. ⌜ now (answer .exit) ≡ cells 3 (recordAnswer (now (file .entry)) «record_size» address count index (now (output .entry))) ⌝ }
+    ensures outputLeft { λ _. ⌜ now (output .exit) ≡ recordExit (now (file .entry)) «record_size» address count index (now (output .entry)) ⌝ }
+{
+    let record = btree_v2_leaf_view::leaf_record(file, address, count, record_size, index);
+    let length = record.len();
+    if length == 0 {
+        let verdict = btree_v2_leaf_view::check_view(file, address, count, record_size);
+        answers::put_verdict(answer, verdict);
+        return;
+    }
+    if output.len() < length {
+        let short = Refusal::OutputTooShort(output.len() as u64);
+        answers::put_verdict(answer, Verdict::Refused(short));
+        return;
+    }
+    numbers::put_bytes(output, 0, record);
+    *answer = [0, length as u64, 0];
 }

@@ -8,18 +8,18 @@ use lib.ListN.{length, getD}
 use mir.Syntax.{w64}
 use mir.Val.{Fits}
 use borrow.Author.Tests.{le-leb, ne-eqb}
-use Rattle.fields.specs.Numbers.{part, num, unle, fieldSize}
-use Rattle.fields.proofs.Lists.{part-cons}
-use Rattle.fields.proofs.Numbers.{num-add, field-size-le}
+use Rattle.numbers.specs.Numbers.{part, num, unle, fieldSize}
+use Rattle.numbers.proofs.Lists.{part-cons}
+use Rattle.numbers.proofs.Numbers.{num-add, field-size-le}
 use Rattle.refusal.specs.declared.Refusal.{Refusal}
 use Rattle.refusal.specs.Answer.{Answer, accepted, refused, refusalOf, orElse, verdictOf}
 use Rattle.format.specs.Bytes.{headerSignature}
-use Rattle.format.specs.Walk.{needs}
-use Rattle.format.specs.Reading.{same, Header, headerFigures, headerAt, checksumTest, parsed}
+use Rattle.read_checks.specs.Tests.{needs, same, checksumTest}
+use Rattle.btree_v2_header.specs.Header.{Header, headerFigures, headerAt, parsed}
 use Rattle.refusal.specs.declared.Verdict.{Verdict}
 use Rattle.refusal.specs.declared.Verdict.the-variants.{Accepted, Refused}
 use Rattle.btree_v2_header.specs.Parsing.{Begun}
-use Rattle.checks.proofs.Checks.{bytes-missing, sum-right, sum-wrong}
+use Rattle.read_checks.proofs.Checks.{bytes-missing, sum-right, sum-wrong}
 
 -- A number in one byte.
 num-1 : (l : List ℕ) (p : ℕ) → p < length l → num l p 1 ≡ getD l p 0

@@ -1,6 +1,6 @@
 -- What the header reader's answer says, in the terms of the format's definitions.
 use Rattle.refusal.specs.Answer.{Answer, accepted, refusalOf}
-use Rattle.format.specs.Reading.{Header, headerFigures}
+use Rattle.btree_v2_header.specs.Header.{Header, headerFigures}
 use Rattle.btree_v2_header.specs.declared.BTreeV2Header.{BTreeV2Header}
 use Rattle.btree_v2_header.specs.declared.HeaderAnswer.{HeaderAnswer}
 use Rattle.btree_v2_header.specs.declared.HeaderAnswer.the-variants as header

@@ -4,9 +4,9 @@ use mathlib.Core.Bool.{true}
 use mathlib.Core.List.{List}
 use Prim.Native.Nat.{ℕ, _+_, _≤_}
 use lib.ListN.{length}
-use Rattle.fields.specs.Numbers.{part, num, fieldSize}
+use Rattle.numbers.specs.Numbers.{part, num, fieldSize}
 use Rattle.format.specs.Bytes.{headerSignature}
-use Rattle.format.specs.Reading.{same}
+use Rattle.read_checks.specs.Tests.{same}
 
 pub record Begun (file : List ℕ) (o ow : ℕ) : Type 0 where
   pub there : o + 16 ≤ length file

@@ -4,8 +4,8 @@ ghost use mathlib.Core.Path.{_≡_};
 ghost use mathlib.Core.Bool.{true};
 ghost use Prim.Native.Nat.{_+_, _≤_};
 ghost use lib.ListN.{length};
-ghost use Rattle.fields.specs.Numbers.{num, fieldSize};
-ghost use Rattle.format.specs.Reading.{headerAt, parsed};
+ghost use Rattle.numbers.specs.Numbers.{num, fieldSize};
+ghost use Rattle.btree_v2_header.specs.Header.{headerAt, parsed};
 ghost use Rattle.btree_v2_header.specs.Answers.{fieldsOf, headerAnswerOf};
 ghost use Rattle.btree_v2_header.specs.Parsing.{Begun};
 use refusal::Refusal;
@@ -34,21 +34,21 @@ impl BTreeV2Header {
     pub fn parse(file: &[u8], offset: u64, offset_size: u8, length_size: u8) -> HeaderAnswer
         ensures { λ r. ⌜ headerAnswerOf r ≡ parsed (now (file .entry)) offset «offset_size» «length_size» ⌝ }
     {
-        if let Verdict::Refused(r) = checks::ensure_len(file, offset, 4) {
+        if let Verdict::Refused(r) = read_checks::ensure_len(file, offset, 4) {
             return HeaderAnswer::Refused(r);
         }
         let at = offset as usize;
-        if !checks::has_signature(file, at, b'H', b'D') {
+        if !read_checks::has_signature(file, at, b'H', b'D') {
             return HeaderAnswer::Refused(Refusal::InvalidBTreeV2Signature);
         }
-        if let Verdict::Refused(r) = checks::ensure_len(file, offset, 16) {
+        if let Verdict::Refused(r) = read_checks::ensure_len(file, offset, 16) {
             return HeaderAnswer::Refused(r);
         }
         let version = file[at + 4];
         if version != 0 {
             return HeaderAnswer::Refused(Refusal::InvalidBTreeV2Version(version));
         }
-        if !counts::is_field_size(offset_size) {
+        if !numbers::is_field_size(offset_size) {
             return HeaderAnswer::Refused(Refusal::InvalidOffsetSize(offset_size));
         }
         parse_sized(file, offset, offset_size, length_size)
@@ -61,25 +61,25 @@ fn parse_sized(file: &[u8], offset: u64, offset_size: u8, length_size: u8) -> He
     ensures { λ r. ⌜ headerAnswerOf r ≡ parsed (now (file .entry)) offset «offset_size» «length_size» ⌝ }
 {
     let root_end = 16 + (offset_size as u64);
-    if let Verdict::Refused(r) = checks::ensure_len(file, offset, root_end) {
+    if let Verdict::Refused(r) = read_checks::ensure_len(file, offset, root_end) {
         return HeaderAnswer::Refused(r);
     }
-    if let Verdict::Refused(r) = checks::ensure_len(file, offset, root_end + 2) {
+    if let Verdict::Refused(r) = read_checks::ensure_len(file, offset, root_end + 2) {
         return HeaderAnswer::Refused(r);
     }
-    if !counts::is_field_size(length_size) {
+    if !numbers::is_field_size(length_size) {
         return HeaderAnswer::Refused(Refusal::InvalidLengthSize(length_size));
     }
     let fields_end = root_end + 2 + (length_size as u64);
-    if let Verdict::Refused(r) = checks::ensure_len(file, offset, fields_end) {
+    if let Verdict::Refused(r) = read_checks::ensure_len(file, offset, fields_end) {
         return HeaderAnswer::Refused(r);
     }
-    if let Verdict::Refused(r) = checks::ensure_len(file, offset, fields_end + 4) {
+    if let Verdict::Refused(r) = read_checks::ensure_len(file, offset, fields_end + 4) {
         return HeaderAnswer::Refused(r);
     }
     let at = offset as usize;
     let end = at + (fields_end as usize);
-    if let Verdict::Refused(r) = checks::check_checksum(file, at, end) {
+    if let Verdict::Refused(r) = read_checks::check_checksum(file, at, end) {
         return HeaderAnswer::Refused(r);
     }
     HeaderAnswer::Parsed(fields_at(file, at, offset_size, length_size))
@@ -97,9 +97,9 @@ fn fields_at(file: &[u8], at: usize, offset_size: u8, length_size: u8) -> BTreeV
         node_size: read_u32(file, at + 6),
         record_size: read_u16(file, at + 10),
         depth: read_u16(file, at + 12),
-        root_node_address: fields::read_le(file, at + 16, root_width),
+        root_node_address: numbers::read_le(file, at + 16, root_width),
         num_records_in_root: read_u16(file, at + 16 + root_width),
-        total_records: fields::read_le(file, at + 18 + root_width, total_width),
+        total_records: numbers::read_le(file, at + 18 + root_width, total_width),
     }
 }
 

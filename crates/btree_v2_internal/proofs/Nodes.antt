@@ -9,20 +9,20 @@ use lib.ListN.{length}
 use mir.Syntax.{w64}
 use mir.Val.{Fits}
 use borrow.Author.Tests.{le-leb}
-use Rattle.fields.specs.Numbers.{part, num, held, fieldSize}
-use Rattle.fields.proofs.Copying.{part-held}
-use Rattle.fields.proofs.Lists.{length-part}
-use Rattle.fields.proofs.Numbers.{held-add}
+use Rattle.numbers.specs.Numbers.{part, num, held, fieldSize}
+use Rattle.numbers.proofs.Copying.{part-held}
+use Rattle.numbers.proofs.Lists.{length-part}
+use Rattle.numbers.proofs.Numbers.{held-add}
 use Rattle.refusal.specs.declared.Refusal.{Refusal}
 use Rattle.refusal.specs.Answer.{Answer, accepted, refused, orElse, verdictOf}
 use Rattle.format.specs.Bytes.{internalSignature}
-use Rattle.format.specs.Walk.{Source, needs, pointerWidth, pointerPlace, childAddress, childRecords}
-use Rattle.format.specs.Reading.{same, internalTest}
-use Rattle.format.proofs.Passing.{passed, there}
+use Rattle.btree_v2_internal.specs.Internal.{Source, pointerWidth, pointerPlace, childAddress, childRecords, internalTest}
+use Rattle.read_checks.specs.Tests.{needs, same}
+use Rattle.read_checks.proofs.Passing.{passed, there}
 use Rattle.refusal.specs.declared.Verdict.{Verdict}
 use Rattle.refusal.specs.declared.Verdict.the-variants.{Accepted, Refused}
-use Rattle.checks.proofs.Checks.{bytes-there, bytes-missing, test-holds, test-fails}
-use Rattle.checks.proofs.Nodes.{product-small, front-there}
+use Rattle.read_checks.proofs.Checks.{bytes-there, bytes-missing, test-holds, test-fails}
+use Rattle.read_checks.proofs.Nodes.{product-small, front-there}
 use Rattle.btree_v2_internal.specs.declared.Sizes.{Sizes}
 use Rattle.btree_v2_internal.specs.declared.Node.{Node}
 use Rattle.btree_v2_internal.specs.Pointers.{sourceBy, pointerAt, addressAt, recordsAt}

@@ -1,8 +1,8 @@
 -- An internal node in a file by the sizes of its records and pointers, and the child that a pointer leads to, of every file and all sizes.
 use Prim.Native.Nat.{ℕ, _+_, _%_, min}
 use mathlib.Core.List.{List}
-use Rattle.fields.specs.Numbers.{num}
-use Rattle.format.specs.Walk.{Source, pointerPlace}
+use Rattle.numbers.specs.Numbers.{num}
+use Rattle.btree_v2_internal.specs.Internal.{Source, pointerPlace}
 use Rattle.btree_v2_internal.specs.declared.Sizes.{Sizes}
 use Rattle.btree_v2_internal.specs.declared.Node.{Node}
 

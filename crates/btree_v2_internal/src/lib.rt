@@ -3,7 +3,7 @@
 ghost use mathlib.Core.Path.{_≡_};
 ghost use Prim.Native.Nat.{_+_, _<_};
 ghost use Rattle.refusal.specs.Answer.{verdictOf};
-ghost use Rattle.format.specs.Reading.{internalTest};
+ghost use Rattle.btree_v2_internal.specs.Internal.{internalTest};
 ghost use Rattle.btree_v2_internal.specs.Pointers.{sourceBy, addressAt, recordsAt};
 use refusal::Refusal;
 use refusal::Verdict;
@@ -35,26 +35,26 @@ fn pointer_size(sizes: Sizes) -> u64
 pub fn check_internal(file: &[u8], sizes: Sizes, node: Node) -> Verdict
     ensures { λ r. ⌜ verdictOf r ≡ internalTest (sourceBy (now (file .entry)) sizes) 0 (node .address) (node .records) ⌝ }
 {
-    let front = checks::ensure_len(file, node.address, 6);
+    let front = read_checks::ensure_len(file, node.address, 6);
     let Verdict::Accepted = front else {
         return front;
     };
     let at = node.address as usize;
-    if !checks::has_signature(file, at, b'I', b'N') {
+    if !read_checks::has_signature(file, at, b'I', b'N') {
         return Verdict::Refused(Refusal::InvalidBTreeV2Signature);
     }
     let rest = &file[at..];
     let bytes = (node.records as u64) * (sizes.record_size as u64);
-    let records = checks::ensure_len(rest, 6, bytes);
+    let records = read_checks::ensure_len(rest, 6, bytes);
     let Verdict::Accepted = records else {
         return records;
     };
     let wide = pointer_size(sizes);
-    let pointers = checks::ensure_len(rest, 6 + bytes, ((node.records as u64) + 1) * wide);
+    let pointers = read_checks::ensure_len(rest, 6 + bytes, ((node.records as u64) + 1) * wide);
     let Verdict::Accepted = pointers else {
         return pointers;
     };
-    if counts::is_field_size(sizes.offset_size) {
+    if numbers::is_field_size(sizes.offset_size) {
         return Verdict::Accepted;
     }
     Verdict::Refused(Refusal::InvalidOffsetSize(sizes.offset_size))
@@ -66,10 +66,10 @@ pub fn read_pointer(file: &[u8], sizes: Sizes, node: Node, i: u16) -> Node
 {
     let bytes = (node.records as u64) * (sizes.record_size as u64);
     let before = 6 + bytes + (i as u64) * pointer_size(sizes);
-    let at = counts::saturating_add(node.address, before);
-    let next = counts::saturating_add(at, sizes.offset_size as u64);
-    let address = fields::read_le(file, at as usize, sizes.offset_size as usize);
-    let count = fields::read_le(file, next as usize, sizes.count_size as usize);
+    let at = numbers::saturating_add(node.address, before);
+    let next = numbers::saturating_add(at, sizes.offset_size as u64);
+    let address = numbers::read_le(file, at as usize, sizes.offset_size as usize);
+    let count = numbers::read_le(file, next as usize, sizes.count_size as usize);
     Node {
         address,
         records: (count % 65536) as u16,

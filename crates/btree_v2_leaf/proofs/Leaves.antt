@@ -1,24 +1,24 @@
 -- A leaf's tests, one law for each way out; and what a leaf that passes them has.
 use mathlib.Core.Path.{_≡_, sym, ap, _∙_}
 use mathlib.Core.Bool.{Bool, true, false, not}
-use mathlib.Core.List.{List, [], _∷_}
+use mathlib.Core.List.{List, []}
 use Prim.Native.Nat.{ℕ, _+_, _-_, _*_, _^_, _≤_, _<_}
 use native.Mathlib.Omega.{arith}
 use lib.ListN.{length}
 use mir.Syntax.{w64}
 use mir.Val.{Fits}
 use borrow.Author.Tests.{le-leb, lt-leb}
-use Rattle.fields.specs.Numbers.{part}
+use Rattle.numbers.specs.Numbers.{part}
 use Rattle.refusal.specs.declared.Refusal.{Refusal}
 use Rattle.refusal.specs.Answer.{accepted, refused, verdictOf}
 use Rattle.format.specs.Bytes.{leafSignature}
-use Rattle.format.specs.Walk.{needs}
-use Rattle.format.specs.Reading.{same, checksumTest, leafTest}
-use Rattle.format.proofs.Looking as look
+use Rattle.read_checks.specs.Tests.{needs, same, checksumTest}
+use Rattle.btree_v2_leaf.specs.Leaf.{leafTest}
+use Rattle.btree_v2_leaf.proofs.Records as records
 use Rattle.refusal.specs.declared.Verdict.{Verdict}
 use Rattle.refusal.specs.declared.Verdict.the-variants.{Accepted, Refused}
-use Rattle.checks.proofs.Checks.{bytes-there, bytes-missing, test-holds, test-fails}
-use Rattle.checks.proofs.Nodes.{front-there}
+use Rattle.read_checks.proofs.Checks.{bytes-there, bytes-missing, test-holds, test-fails}
+use Rattle.read_checks.proofs.Nodes.{front-there}
 
 -- The records of a leaf at a are there.
 module _ (file : List ℕ) (k a n : ℕ) (rows : Verdict) (counted : verdictOf rows ≡ needs (a + 6 + n * k) (length file) (accepted []))
@@ -68,7 +68,7 @@ module _ (file : List ℕ) (k a n : ℕ) where
 
   -- A leaf that passes has its records.
   pub leaf-there : (v : Verdict) → verdictOf v ≡ leafTest file k a n → v ≡ Accepted → a + 6 + n * k ≤ length file
-  leaf-there v told e = look.leaf-there file k a n [] (sym told ∙ ap verdictOf e)
+  leaf-there v told e = records.leaf-there file k a n [] (sym told ∙ ap verdictOf e)
 
   pub leaf-fits : (v : Verdict) → verdictOf v ≡ leafTest file k a n → v ≡ Accepted → length file < 2 ^ 64 → Fits w64 (a + 6)
   leaf-fits v told e h = omega (arith, leaf-there v told e)

@@ -1,2 +1,3 @@
 -- The laws of a leaf's tests, which serve the collector too.
 pub mod Leaves
+pub mod Records

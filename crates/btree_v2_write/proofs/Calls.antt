@@ -1,5 +1,5 @@
 -- The writing call: what its checks give to the functions that fill the outputs, and that these leave the defined bytes.
-use mathlib.Core.Path.{_≡_, refl, sym, _∙_, ap, subst, subst⁻¹}
+use mathlib.Core.Path.{_≡_, sym, _∙_, ap, subst⁻¹}
 use mathlib.Core.List.{List, [], _∷_}
 use mathlib.Core.Logic.{⊎-elim}
 use Prim.Native.Nat.{ℕ, _+_, _-_, _*_, _^_, _≤_, _<_}
@@ -8,9 +8,9 @@ use native.Mathlib.Omega.{arith}
 use lib.Dec.{lit<}
 use lib.Pow.{pow-mono, pow-pos}
 use lib.ListN.{length, getD}
-use Rattle.fields.specs.Places.{stored, put}
-use Rattle.fields.proofs.Lists.{put-fits}
-use Rattle.fields.proofs.Numbers.{field-size-le}
+use Rattle.numbers.specs.Places.{put}
+use Rattle.numbers.proofs.Lists.{put-fits}
+use Rattle.numbers.proofs.Numbers.{field-size-le}
 use Rattle.refusal.specs.declared.Refusal.{Refusal}
 use Rattle.refusal.specs.Answer.{refused}
 use Rattle.refusal.proofs.Answers.{refused-is}
@@ -28,19 +28,20 @@ use Rattle.plan.proofs.Accepted.{planned-none, planned-size}
 use Rattle.plan.proofs.Trees.{Everywhere}
 use Rattle.plan.proofs.Checks.{Plannable, accepted-plannable}
 use Rattle.format.specs.Bytes.{Form, address, headerBytes, image}
-use Rattle.format.specs.Writing.{Request, formOf, depthOf, nodesOf, imageOf, rootOf, rootRecordsOf, headerOf, written, headerExit, imageExit}
+use Rattle.format.specs.Request.{Request, formOf, depthOf, nodesOf, imageOf, rootOf, rootRecordsOf, headerOf}
+use Rattle.write_checks.specs.Writing.{written, headerExit, imageExit}
 use Rattle.format.proofs.Lengths.{Fit}
-use Rattle.format.proofs.Accepted.{Accepts, Roomy, accepts, roomy, plan-accepted}
-use Rattle.format.proofs.Fitting.{fits}
-use Rattle.format.proofs.HeaderReturn.{length-headerOf}
-use Rattle.format.proofs.Fronts.{header-left, image-left}
-use Rattle.format.proofs.Outcomes.{over-stored, header-put, image-put}
-use Rattle.frame.specs.declared.Layout.{Layout}
+use Rattle.write_checks.proofs.Accepted.{Accepts, Roomy, accepts, roomy, plan-accepted}
+use Rattle.write_checks.proofs.Fitting.{fits}
+use Rattle.format.proofs.HeaderLengths.{length-headerOf}
+use Rattle.write_checks.proofs.Outputs.{header-left, image-left, header-put, image-put}
+use Rattle.numbers.proofs.Copying.{over-stored}
+use Rattle.btree_v2_stamp.specs.declared.Layout.{Layout}
 use Rattle.btree_v2_write.specs.declared.node.Child.{Child}
-use Rattle.write_request.specs.declared.Request as own
-use Rattle.frame.specs.Layouts.{formAt}
+use Rattle.write_checks.specs.declared.Request as own
+use Rattle.btree_v2_stamp.specs.Layouts.{formAt}
 use Rattle.btree_v2_write.specs.Subtrees.{subtree, subtreeNodes, subtreeImage, Ready, SubtreeWritten}
-use Rattle.write_request.specs.Tests.{requestOf, Checked}
+use Rattle.write_checks.specs.Tests.{requestOf, Checked}
 use Rattle.btree_v2_write.specs.Call.{layoutOf, Accepted, Wrote}
 use Rattle.btree_v2_write.proofs.Internal.{address-fits}
 

@@ -14,17 +14,17 @@ use mir.Val.{Fits}
 use mir.Syntax.{w64}
 use lib.Dec.{ltb}
 use lib.ListN.{length, length-append}
-use Rattle.fields.specs.Numbers.{pick, le, part}
-use Rattle.fields.specs.Places.{stored, put}
-use Rattle.fields.proofs.Lists.{stored-nil, stored-append, length-stored, length-part, put-fits}
-use Rattle.fields.proofs.Numbers.{le-length, lt-or-le}
-use Rattle.frame.specs.declared.Layout.{Layout}
+use Rattle.numbers.specs.Numbers.{pick, le, part}
+use Rattle.numbers.specs.Places.{stored, put}
+use Rattle.numbers.proofs.Lists.{stored-nil, stored-append, length-stored, length-part, put-fits}
+use Rattle.numbers.proofs.Numbers.{le-length, lt-or-le}
+use Rattle.btree_v2_stamp.specs.declared.Layout.{Layout}
 use Rattle.format.specs.Bytes.{padded}
 use Rattle.btree_v2_write.specs.declared.node.Child.{Child}
 use Rattle.btree_v2_write.specs.declared.node.Inner.{Inner}
 use Rattle.btree_v2_write.specs.Shares.{twoSizes, withOne, rowsAfter, pointerSize, pointerTo, pointersTo, nodesOfAll, InnerFits, innerShares, innerChildren, innerBytes}
-use Rattle.frame.specs.Seals.{sealed}
-use Rattle.frame.proofs.Frames.{after-front, node-sealed}
+use Rattle.btree_v2_stamp.specs.Seals.{sealed}
+use Rattle.btree_v2_stamp.proofs.Frames.{after-front, node-sealed}
 
 pub pick-lt : {A : Type 0} (i e : ℕ) (x y : A) → i < e → x ≡ pick (ltb i e) x y
 pick-lt i e x y h = rw (lt-ltb i e h)

@@ -9,15 +9,15 @@ use borrow.Author.Tests.{le-leb}
 use lib.Dec.{leb}
 use lib.ListN.{length, drop, length-append, length-drop}
 use lib.Seq.{take-all, drop-length}
-use Rattle.fields.specs.Numbers.{pick, le, part}
-use Rattle.fields.specs.Places.{stored, put}
-use Rattle.fields.proofs.Lists.{stored-drop, length-part, put-fits}
-use Rattle.fields.proofs.Numbers.{le-length}
+use Rattle.numbers.specs.Numbers.{pick, le, part}
+use Rattle.numbers.specs.Places.{stored, put}
+use Rattle.numbers.proofs.Lists.{stored-drop, length-part, put-fits}
+use Rattle.numbers.proofs.Numbers.{le-length}
 use Rattle.format.specs.Bytes.{padded, rows, leafBytes}
-use Rattle.frame.specs.declared.Layout.{Layout}
-use Rattle.frame.specs.Layouts.{formAt}
-use Rattle.frame.specs.Seals.{sealed}
-use Rattle.frame.proofs.Frames.{after-front, node-sealed}
+use Rattle.btree_v2_stamp.specs.declared.Layout.{Layout}
+use Rattle.btree_v2_stamp.specs.Layouts.{formAt}
+use Rattle.btree_v2_stamp.specs.Seals.{sealed}
+use Rattle.btree_v2_stamp.proofs.Frames.{after-front, node-sealed}
 
 -- `put_number`: a field that fits.
 pub number-put : (o d : List ℕ) (at x w r : ℕ) → at + w ≤ length o → d ≡ put o at (le w x) → r ≡ pick (leb (at + w) (length o)) (at + w) at

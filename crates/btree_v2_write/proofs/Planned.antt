@@ -10,8 +10,8 @@ use native.Mathlib.Omega.{arith}
 use lib.Dec.{ltb}
 use lib.ListN.{length, replicate}
 use borrow.Author.Tests.{lt-ltb, le-ltb}
-use Rattle.fields.specs.Numbers.{pick}
-use Rattle.fields.proofs.Numbers.{lt-or-le}
+use Rattle.numbers.specs.Numbers.{pick}
+use Rattle.numbers.proofs.Numbers.{lt-or-le}
 use Rattle.plan.specs.Tree.{count, size, below, nodes}
 use Rattle.plan.specs.Planned.{taken, children, kidsOf, planTree, thin}
 use Rattle.plan.proofs.Dealing.{share, extra, extra-lt, children-is, length-children, children-some, sumOf-children, sum-children, taken-le, all-children-less, all-children-more}
@@ -19,10 +19,10 @@ use Rattle.plan.proofs.Lists.{sumOf, AllOf, all-of-map}
 use Rattle.plan.proofs.Plans.{plan-size, plan-nodes}
 use Rattle.plan.proofs.Thin.{thin-children, thin-pos}
 use Rattle.format.specs.Bytes.{rows, address, pointerBytes, pointer, pointers, ownRows, internalBytes, padded, kidsImage, image}
-use Rattle.frame.specs.declared.Layout.{Layout}
+use Rattle.btree_v2_stamp.specs.declared.Layout.{Layout}
 use Rattle.btree_v2_write.specs.declared.node.Child.{Child}
 use Rattle.btree_v2_write.specs.declared.node.Inner.{Inner}
-use Rattle.frame.specs.Layouts.{formAt}
+use Rattle.btree_v2_stamp.specs.Layouts.{formAt}
 use Rattle.btree_v2_write.specs.Shares.{twoSizes, withOne, rowsAfter, pointerTo, pointersTo, nodesOfAll, innerBytes, innerShares, innerChildren}
 use Rattle.btree_v2_write.specs.Subtrees.{capacities, subtree, subtreeNodes, subtreeImage}
 

@@ -6,9 +6,10 @@ use Rattle.refusal.specs.Answer.{Answer, accepted}
 use Rattle.node_info.specs.declared.NodeInfo.{NodeInfo}
 use Rattle.node_info.specs.Table.{infoAt}
 use Rattle.plan.specs.declared.BTreeV2Plan.{BTreeV2Plan}
-use Rattle.format.specs.Writing.{Request, depthOf, written, headerExit, imageExit}
-use Rattle.frame.specs.declared.Layout.{Layout}
-use Rattle.write_request.specs.declared.Request as own
+use Rattle.format.specs.Request.{Request, depthOf}
+use Rattle.write_checks.specs.Writing.{written, headerExit, imageExit}
+use Rattle.btree_v2_stamp.specs.declared.Layout.{Layout}
+use Rattle.write_checks.specs.declared.Request as own
 
 abbrev pub asked : ℕ → ℕ → ℕ → ℕ → ℕ → ℕ → ℕ → Request
 asked treeType n rs ns ow lw start = record { treeType = treeType; n = n; rs = rs; ns = ns; ow = ow; lw = lw; start = start }

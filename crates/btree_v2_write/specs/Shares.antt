@@ -1,11 +1,11 @@
 -- An internal node by its children's numbers, as the functions that fill it go by them: the children come in two sizes.
 use Prim.Native.Nat.{ℕ, zero, suc, _+_, _-_, _*_, _^_, _≤_, _<_}
 use mathlib.Core.List.{List, [], _∷_, _++_}
-use Rattle.fields.specs.Numbers.{le, part}
+use Rattle.numbers.specs.Numbers.{le, part}
 use Rattle.format.specs.Bytes.{internalSignature}
 use Rattle.btree_v2_write.specs.declared.node.Child.{Child}
 use Rattle.btree_v2_write.specs.declared.node.Inner.{Inner}
-use Rattle.frame.specs.declared.Layout.{Layout}
+use Rattle.btree_v2_stamp.specs.declared.Layout.{Layout}
 
 -- The first k of children of which the first `extra` are `large` and the others `small`.
 unfoldable pub twoSizes : {A : Type 0} → ℕ → ℕ → A → A → List A

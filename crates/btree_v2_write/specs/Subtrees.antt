@@ -4,16 +4,16 @@ use mathlib.Core.Bool.{false}
 use mathlib.Core.List.{List}
 use Prim.Native.Nat.{ℕ, _+_, _*_, _^_, _≤_, _<_}
 use lib.ListN.{getD}
-use Rattle.fields.specs.Places.{stored}
+use Rattle.numbers.specs.Places.{stored}
 use Rattle.node_info.specs.Capacity.{subtreeCapacity, totalWidth}
 use Rattle.plan.specs.Tree.{Tree, count, size, nodes}
 use Rattle.plan.specs.Planned.{planTree, thin}
 use Rattle.plan.proofs.Trees.{Everywhere}
 use Rattle.format.specs.Bytes.{image}
 use Rattle.format.proofs.Lengths.{Fit}
-use Rattle.frame.specs.declared.Layout.{Layout}
+use Rattle.btree_v2_stamp.specs.declared.Layout.{Layout}
 use Rattle.btree_v2_write.specs.declared.node.Child.{Child}
-use Rattle.frame.specs.Layouts.{formAt}
+use Rattle.btree_v2_stamp.specs.Layouts.{formAt}
 
 -- What subtrees of each level hold.
 abbrev pub capacities : Layout → ℕ → ℕ

@@ -1,16 +1,16 @@
 // The writing call: a header and the nodes of a version 2 B-tree, put into two lent buffers.
 
 ghost use mathlib.Core.Path.{_≡_};
-ghost use Rattle.format.specs.Writing.{headerExit, imageExit};
+ghost use Rattle.write_checks.specs.Writing.{headerExit, imageExit};
 ghost use Rattle.btree_v2_write.specs.Call.{asked, layoutOf, Accepted, Wrote};
-ghost use Rattle.write_request.specs.Tests.{requestOf};
+ghost use Rattle.write_checks.specs.Tests.{requestOf};
 ghost use Rattle.plan.specs.Planned.{planAnswerOf};
-use frame::Layout;
+use btree_v2_stamp::Layout;
 use node_info::NodeInfo;
 use plan::BTreeV2Plan;
 use plan::PlanAnswer;
-use write_request::Lengths;
-use write_request::Request;
+use write_checks::Lengths;
+use write_checks::Request;
 
 mod node;
 mod subtree;
@@ -47,7 +47,7 @@ fn write_planned(
     let depth = plan.depth as usize;
     let n = request.record_count as usize;
     let root = subtree::write_image(image, layout, records, &most, &wide, depth, n);
-    frame::write_header(
+    btree_v2_stamp::write_header(
         header,
         layout,
         request.length_size as usize,
@@ -88,7 +88,7 @@ pub fn write(
         header: header.len() as u64,
         image: image.len() as u64,
     };
-    let checked = write_request::check(request, lengths);
+    let checked = write_checks::check(request, lengths);
     let answer = checked.answer;
     let PlanAnswer::Planned(plan) = answer else {
         return answer;

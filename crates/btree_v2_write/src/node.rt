@@ -4,19 +4,19 @@ ghost use mathlib.Core.Path.{_≡_};
 ghost use Prim.Native.Nat.{_+_, _*_, _^_, _≤_, _<_};
 ghost use lib.ListN.{length};
 ghost use lib.Dec.{ltb};
-ghost use Rattle.fields.specs.Numbers.{pick, le, part};
-ghost use Rattle.fields.specs.Places.{stored};
+ghost use Rattle.numbers.specs.Numbers.{pick, le, part};
+ghost use Rattle.numbers.specs.Places.{stored};
 ghost use Rattle.format.specs.Bytes.{padded, leafBytes};
-ghost use Rattle.frame.specs.Layouts.{formAt};
+ghost use Rattle.btree_v2_stamp.specs.Layouts.{formAt};
 ghost use Rattle.btree_v2_write.specs.Shares.{twoSizes, withOne, rowsAfter, pointerSize, pointerTo, pointersTo, nodesOfAll, InnerFits, innerBytes};
-use frame::Layout;
+use btree_v2_stamp::Layout;
 
 // Puts `count` bytes of the record list, from its place `first` on, at `at`.
 fn put_rows(node: &mut [u8], at: usize, records: &[u8], first: usize, count: usize)
     requires { ⌜ (at + count ≤ length (now node)) × (first + count ≤ length (now records)) ⌝ }
     ensures { λ _. ⌜ now (node .exit) ≡ stored (now (node .entry)) at (part (now (records .entry)) first count) ⌝ }
 {
-    fields::put_bytes(node, at, &records[first..first + count]);
+    numbers::put_bytes(node, at, &records[first..first + count]);
 }
 
 // Puts x in `width` bytes at `at`, and gives the place after them.
@@ -24,7 +24,7 @@ fn put_number(node: &mut [u8], at: usize, x: u64, width: usize) -> usize
     requires { ⌜ at + width ≤ length (now node) ⌝ }
     ensures { λ r. ⌜ (now (node .exit) ≡ stored (now (node .entry)) at (le width x)) × (r ≡ at + width) ⌝ }
 {
-    fields::write_le(node, at, x, width)
+    numbers::write_le(node, at, x, width)
 }
 
 // Fills a leaf of n records, the first of them record r.
@@ -34,9 +34,9 @@ fn fill_leaf(node: &mut [u8], layout: Layout, records: &[u8], n: usize, r: usize
 {
     let size = layout.record_size;
     let bytes = n * size;
-    frame::put_front(node, 76, 70, layout.tree_type);
+    btree_v2_stamp::put_front(node, 76, 70, layout.tree_type);
     put_rows(node, 6, records, r * size, bytes);
-    frame::seal(node, 6 + bytes, layout.node_size);
+    btree_v2_stamp::seal(node, 6 + bytes, layout.node_size);
 }
 
 // Writes a leaf as node j of the image.
@@ -180,7 +180,7 @@ fn fill_internal(node: &mut [u8], layout: Layout, records: &[u8], inner: Inner)
     let extra = inner.extra;
     let large = inner.large;
     let small = inner.small;
-    frame::put_front(node, 73, 78, layout.tree_type);
+    btree_v2_stamp::put_front(node, 73, 78, layout.tree_type);
     let at = put_own_rows(
         node,
         layout.record_size,
@@ -201,7 +201,7 @@ fn fill_internal(node: &mut [u8], layout: Layout, records: &[u8], inner: Inner)
         inner.total_size,
         inner.first_node,
     );
-    frame::seal(node, end, layout.node_size);
+    btree_v2_stamp::seal(node, end, layout.node_size);
 }
 
 // Writes an internal node as node j of the image.

@@ -5,7 +5,7 @@ ghost use Rattle.btree_v2_write.specs.Subtrees.{Ready, SubtreeWritten};
 use crate::node;
 use crate::node::Child;
 use crate::node::Inner;
-use frame::Layout;
+use btree_v2_stamp::Layout;
 
 // Writes the nodes of a subtree of n records, the first node being node j and the first record record r, and gives the subtree in numbers. The
 // children go first, one after another, and then the root, whose pointers are made of what the children's calls returned: the first child is

@@ -6,8 +6,8 @@ use native.Mathlib.Nat.{add-mul, zero-mul}
 use native.Mathlib.Omega.{arith}
 use lib.ListN.{length, length-append, length-replicate}
 use lib.Seq.{take-all}
-use Rattle.fields.proofs.Lists.{length-part, part-add}
-use Rattle.fields.proofs.Numbers.{le-length}
+use Rattle.numbers.proofs.Lists.{length-part, part-add}
+use Rattle.numbers.proofs.Numbers.{le-length}
 use Rattle.plan.specs.Tree.{Kids, last, more, Tree, sumKids, between, count, size, below, nodes}
 use Rattle.plan.proofs.Trees.{AllKids, Everywhere}
 use Rattle.format.specs.Bytes.{Form, summed, padded, pointerBytes, rows, leafBytes, pointer, pointers, ownRows, internalBytes, kidsImage, image}

@@ -4,7 +4,7 @@ use Prim.Native.Nat.{ℕ, zero, suc, _+_, _-_, _*_}
 use mathlib.Core.List.{List, [], _∷_, _++_}
 use lib.ListN.{length, replicate}
 use Rattle.checksum.specs.Lookup3.{lookup3}
-use Rattle.fields.specs.Numbers.{le, part}
+use Rattle.numbers.specs.Numbers.{le, part}
 use Rattle.plan.specs.Tree.{Kids, last, more, Tree, count, size, below, nodes}
 
 -- The signatures `BTHD`, `BTLF` and `BTIN`.

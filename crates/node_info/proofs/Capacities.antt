@@ -5,8 +5,8 @@ use native.Mathlib.Nat.{add-le-add, add-mul, add-sub-cancel, div-le-self, div-mu
 use native.Mathlib.Decide.{le-ind}
 use native.Mathlib.Omega.{arith}
 use lib.Arith.{mul-pred}
-use Rattle.fields.specs.Numbers.{held, width}
-use Rattle.fields.proofs.Numbers.{width-pos, width-le, width-holds, width-mono, held-mono, held-add, held-mul}
+use Rattle.numbers.specs.Numbers.{held, width}
+use Rattle.numbers.proofs.Numbers.{width-pos, width-le, width-holds, width-mono, held-mono, held-add, held-mul}
 use Rattle.node_info.specs.Capacity.{leafCapacity, countWidth, subtree, pointerSize, internalCapacity, subtreeCapacity, totalWidth, nodeCapacity}
 
 -- From one level to the next, so from a level to any above it.

@@ -10,8 +10,8 @@ use lib.Dec.{leb}
 use lib.ListN.{length, getD, set, length-set, List·getD-eq-default}
 use lib.Seq.{ext-getD, getD-set-same, getD-set-other}
 use borrow.Author.Tests.{le-leb, lt-leb}
-use Rattle.fields.specs.Numbers.{pick}
-use Rattle.fields.proofs.Numbers.{lt-or-le}
+use Rattle.numbers.specs.Numbers.{pick}
+use Rattle.numbers.proofs.Numbers.{lt-or-le}
 use Rattle.node_info.specs.Capacity.{totalWidth, nodeCapacity, subtreeCapacity}
 use Rattle.node_info.specs.Table.{columnFrom, column, infoAt}
 use Rattle.node_info.specs.declared.NodeInfo.{NodeInfo}

@@ -6,7 +6,7 @@ use native.Mathlib.Nat.{add-zero, div-zero, eq-or-lt-of-le, eq-zero-or-pos, le-a
 use native.Mathlib.Decide.{le-ind}
 use native.Mathlib.Omega.{arith}
 use borrow.Author.Tests.{le-leb, lt-leb, eq-eqb, ne-eqb}
-use Rattle.fields.proofs.Numbers.{lt-or-le}
+use Rattle.numbers.proofs.Numbers.{lt-or-le}
 use Rattle.node_info.specs.Capacity.{leafCapacity, subtreeCapacity, nodeCapacity, depthFrom, depthFor}
 use Rattle.node_info.proofs.Capacities.{node-zero, subtree-zero, node-falls, subtree-none, subtree-power}
 

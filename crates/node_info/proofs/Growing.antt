@@ -10,7 +10,7 @@ use lib.Arith.{le-zero}
 use lib.Dec.{leb, ltb}
 use lib.ListN.{getD, set, replicate}
 use borrow.Author.Tests.{le-leb, lt-leb, ltb-true, ltb-false}
-use Rattle.fields.specs.Numbers.{pick, width}
+use Rattle.numbers.specs.Numbers.{pick, width}
 use Rattle.refusal.specs.Answer.{accepted, refused}
 use Rattle.node_info.specs.Capacity.{leafCapacity, countWidth, subtree, pointerSize, internalCapacity, subtreeCapacity, totalWidth, nodeCapacity, depthFrom, depthFor}
 use Rattle.node_info.specs.Table.{columnFrom, column, infoAt, noInfo, tabled}

@@ -2,7 +2,7 @@
 -- "Capacity table", whose letters stand beside each name; level 0 is the leaves.
 use Prim.Native.Nat.{ℕ, zero, suc, _+_, _-_, _*_, _/_}
 use lib.Dec.{leb, eqb}
-use Rattle.fields.specs.Numbers.{pick, held, width}
+use Rattle.numbers.specs.Numbers.{pick, held, width}
 
 -- L: the records that a leaf holds. Differences stop at 0 and a quotient by 0 is 0.
 unfoldable pub leafCapacity : ℕ → ℕ → ℕ

@@ -3,7 +3,7 @@ use Prim.Native.Nat.{ℕ, zero, suc, _+_}
 use mathlib.Core.List.{List, [], _∷_, _++_}
 use lib.Dec.{leb}
 use lib.ListN.{replicate}
-use Rattle.fields.specs.Numbers.{pick}
+use Rattle.numbers.specs.Numbers.{pick}
 use Rattle.refusal.specs.Answer.{Answer, accepted, refused, refusalOf}
 use Rattle.node_info.specs.Capacity.{countWidth, totalWidth, nodeCapacity, subtreeCapacity}
 use Rattle.node_info.specs.declared.NodeInfo.{NodeInfo}

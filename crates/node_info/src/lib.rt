@@ -2,7 +2,7 @@
 
 ghost use mathlib.Core.Path.{_≡_};
 ghost use lib.Dec.{leb};
-ghost use Rattle.fields.specs.Numbers.{pick, width};
+ghost use Rattle.numbers.specs.Numbers.{pick, width};
 ghost use Rattle.node_info.specs.Capacity.{leafCapacity, countWidth, subtree, internalCapacity, subtreeCapacity, depthFor};
 ghost use Rattle.node_info.specs.Table.{infoAt, noInfo, tabled, tableAnswer};
 use refusal::Refusal;
@@ -86,9 +86,9 @@ fn level_above(
     ensures { λ r. ⌜ (r .most ≡ internalCapacity «node_size» «record_size» «offset_size» total) × (r .all ≡ subtree (r .most) under) × (r .total ≡ width (r .all)) ⌝ }
 {
     let most = max_records_internal(node_size, record_size, offset_size, wide, total);
-    let all = counts::saturating_add(counts::saturating_mul(most + 1, under), most);
+    let all = numbers::saturating_add(numbers::saturating_mul(most + 1, under), most);
     Level {
-        total: counts::bytes_for_max_records(all),
+        total: numbers::bytes_for_max_records(all),
         most,
         all,
     }
@@ -105,7 +105,7 @@ impl NodeInfo {
         ensures { λ r. ⌜ r ≡ infoAt «node_size» «record_size» 0 0 ⌝ }
     {
         let most = max_records_leaf(node_size, record_size);
-        let wide = counts::bytes_for_max_records(most);
+        let wide = numbers::bytes_for_max_records(most);
         let mut max_nrec = [0u64; 33];
         max_nrec[0] = most;
         let mut cum_max_nrec = [0u64; 33];

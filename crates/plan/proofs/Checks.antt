@@ -6,7 +6,7 @@ use Prim.Native.Nat.{ℕ, zero, suc, _≤_, _<_}
 use native.Mathlib.Omega.{arith}
 use lib.Dec.{leb, ltb, eqb}
 use borrow.Author.Tests.{leb-true, ltb-true, not-true, lt-ltb, le-ltb, le-leb, lt-leb, ne-eqb}
-use Rattle.fields.specs.Numbers.{fieldSize}
+use Rattle.numbers.specs.Numbers.{fieldSize}
 use Rattle.refusal.specs.Answer.{Answer, accepted, refused, orElse}
 use Rattle.node_info.specs.Capacity.{subtreeCapacity, depthFor}
 use Rattle.plan.specs.Steps.{Passed}

@@ -7,7 +7,7 @@ use native.Mathlib.Nat.{mod-lt, div-add-mod, div-eq-of-lt, div-le-self, lt-mul-d
 use native.Mathlib.Numerals.{add-one}
 use native.Mathlib.Omega.{arith}
 use lib.ListN.{length, getD, replicate}
-use Rattle.fields.proofs.Numbers.{lt-or-le}
+use Rattle.numbers.proofs.Numbers.{lt-or-le}
 use Rattle.plan.specs.Planned.{ceilDiv, taken, dealt, children}
 use Rattle.plan.proofs.Lists.{AllOf, all-of-two, all-of-at, sumOf, sumOf-two, length-two, first-run, second-run}
 

@@ -9,7 +9,7 @@ use lib.Dec.{leb, ltb, eqb}
 use borrow.Author.Tests.{leb-true, not-true, not-false, eq-eqb, ne-eqb}
 use mir.Syntax.{w64}
 use mir.Val.{Fits}
-use Rattle.fields.specs.Numbers.{fieldSize}
+use Rattle.numbers.specs.Numbers.{fieldSize}
 use Rattle.refusal.specs.Answer.{Answer, accepted, refused}
 use Rattle.node_info.specs.Capacity.{subtreeCapacity, nodeCapacity, depthFor}
 use Rattle.node_info.proofs.Columns.{subtree-entry}

@@ -9,7 +9,7 @@ use native.Mathlib.Omega.{arith}
 use native.Mathlib.Numerals.{add-one}
 use lib.Dec.{ltb, lit<, lit≤}
 use borrow.Author.Tests.{ltb-false, lt-ltb, le-ltb}
-use Rattle.fields.proofs.Numbers.{lt-or-le}
+use Rattle.numbers.proofs.Numbers.{lt-or-le}
 use Rattle.plan.specs.Planned.{taken, children, anyOf, thin}
 use Rattle.plan.proofs.Dealing.{taken-most, taken-many, taken-pos, children-le, children-ge}
 use Rattle.plan.proofs.Lists.{AllOf, all-of-both}

@@ -5,13 +5,12 @@ use mathlib.Core.Bool.{Bool, false, not, _||_, _&&_}
 use mathlib.Core.List.{List, [], _∷_, _++_}
 use lib.Dec.{leb, ltb, eqb}
 use lib.ListN.{replicate}
-use Rattle.fields.specs.Numbers.{fieldSize}
+use Rattle.numbers.specs.Numbers.{fieldSize}
 use Rattle.refusal.specs.Answer.{Answer, accepted, refused, refusalOf, orElse}
 use Rattle.node_info.specs.Capacity.{subtreeCapacity, depthFor}
 use Rattle.node_info.specs.Table.{infoAt, noInfo}
 use Rattle.node_info.specs.declared.NodeInfo.{NodeInfo}
 use Rattle.plan.specs.Tree.{Kids, last, more, Tree, nodes, leaves}
-use Rattle.plan.specs.declared.BTreeV2Plan.{BTreeV2Plan}
 use Rattle.plan.specs.declared.PlanAnswer.{PlanAnswer}
 use Rattle.plan.specs.declared.PlanAnswer.the-variants.{Planned, Refused}
 

@@ -4,7 +4,7 @@ use mathlib.Core.Bool.{true, false}
 use mathlib.Core.List.{List}
 use Prim.Native.Nat.{ℕ, _^_, _≤_, _<_}
 use lib.ListN.{getD}
-use Rattle.fields.specs.Numbers.{fieldSize}
+use Rattle.numbers.specs.Numbers.{fieldSize}
 use Rattle.plan.specs.Tree.{nodes, leaves}
 use Rattle.plan.specs.Planned.{planTree, thin}
 

@@ -207,7 +207,7 @@ fn lay_out_passed(
 pub fn lay_out(record_count: u64, record_size: u16, node_size: u32, offset_size: u8) -> PlanAndTable
     ensures { λ r. ⌜ Laid «record_count» «record_size» «node_size» «offset_size» (planAnswerOf (r .answer)) (r .info) ⌝ }
 {
-    if !counts::is_field_size(offset_size) {
+    if !numbers::is_field_size(offset_size) {
         return PlanAndTable::refused(Refusal::InvalidOffsetSize(offset_size));
     }
     if node_size < NODE_SIZE_MIN {

@@ -1,17 +1,18 @@
 -- Laws of an answer as numbers. (`cc` knows that `accepted` and `refused` differ and give back what they hold.)
 use mathlib.Core.Path.{_≡_, refl}
+use mathlib.Core.Bool.{Bool, true, false}
+use Prim.Native.Nat.{_-_, ℕ, suc, _+_, _≤_, _<_}
+use lib.Dec.{T, lit<, lit≤}
+use Rattle.refusal.specs.Answer.{orElse, Answer, accepted, refused, refusalOf, verdictOf, cells}
 use mathlib.Core.List.{List, [], _∷_, _++_, append-assoc}
-use Prim.Native.Nat.{ℕ, suc, _+_, _-_, _≤_, _<_}
 use native.Mathlib.Nat.{add-comm}
 use native.Mathlib.Omega.{arith}
-use lib.Dec.{lit<, lit≤}
 use lib.ListN.{length, take, replicate, length-take, length-append, length-replicate, replicate-append-replicate}
 use lib.Seq.{take-append-add, take-at}
 use Rattle.refusal.specs.declared.Refusal.{Refusal}
 use Rattle.refusal.specs.declared.Refusal.the-variants.{UnexpectedEof, InvalidBTreeV2Signature, InvalidBTreeV2Version, InvalidOffsetSize, InvalidLengthSize, ChecksumMismatch, InvalidNodeSize, ZeroRecordSize, TooManyRecords, LevelHoldsNone, SubtreeTooThin, RecordBufferLength, CountAboveLengthSize, AddressAboveOffsetSize, OutputTooShort, DepthAboveLimit}
 use Rattle.refusal.specs.declared.Verdict.{Verdict}
 use Rattle.refusal.specs.declared.Verdict.the-variants.{Accepted, Refused}
-use Rattle.refusal.specs.Answer.{Answer, accepted, refused, refusalOf, verdictOf, cells}
 
 -- k numbers are k.
 pub length-cells : (k : ℕ) (a : Answer) → length (cells k a) ≡ k
@@ -84,3 +85,19 @@ accepted-told e h = rw (e, h .0, h .1, h .2)
 
 pub refused-told : {v : Verdict} {r : Refusal} {t : List ℕ} → v ≡ Refused r → t ≡ cells 3 (refusalOf r) → t ≡ cells 3 (verdictOf v)
 refused-told e h = rw e h
+
+-- A test that holds, and one that does not.
+module _ {A : Type 0} (t : Bool) (refusal rest : A) where
+  pub or-else-true : t ≡ true → orElse t refusal rest ≡ rest
+  or-else-true e = rw e
+
+  pub or-else-false : t ≡ false → orElse t refusal rest ≡ refusal
+  or-else-false e = rw e
+
+pub or-else-T : {A : Type 0} (t : Bool) (refusal rest : A) → T t → orElse t refusal rest ≡ rest
+or-else-T true refusal rest h = refl
+or-else-T false refusal rest h = absurd h
+
+pub or-else-not : {A : Type 0} (t : Bool) (refusal rest : A) → (T t → ⊥) → orElse t refusal rest ≡ refusal
+or-else-not true refusal rest h = absurd (h tt)
+or-else-not false refusal rest h = refl

@@ -1,7 +1,7 @@
 -- An answer in document 01's terms, and the number and values that it gives to each cause ("Causes and numbers").
-use Prim.Native.Nat.{ℕ}
-use mathlib.Core.Bool.{Bool, true, false}
+use Prim.Native.Nat.{ℕ, _-_}
 use mathlib.Core.List.{List, [], _∷_, _++_}
+use mathlib.Core.Bool.{Bool, true, false}
 use lib.ListN.{take, replicate}
 use Rattle.refusal.specs.declared.Refusal.{Refusal}
 use Rattle.refusal.specs.declared.Refusal.the-variants.{UnexpectedEof, InvalidBTreeV2Signature, InvalidBTreeV2Version, InvalidOffsetSize, InvalidLengthSize, ChecksumMismatch, InvalidNodeSize, ZeroRecordSize, TooManyRecords, LevelHoldsNone, SubtreeTooThin, RecordBufferLength, CountAboveLengthSize, AddressAboveOffsetSize, OutputTooShort, DepthAboveLimit}
@@ -46,3 +46,13 @@ verdictOf (verdict.Refused r) = refusalOf r
 unfoldable pub cells : ℕ → Answer → List ℕ
 cells k (accepted figures) = take k ((0 ∷ figures) ++ replicate k 0)
 cells k (refused number values) = take k ((number ∷ values) ++ replicate k 0)
+
+-- What goes on where an answer accepts.
+abbrev pub onAccepted : Answer → Answer → Answer
+onAccepted (accepted figures) next = next
+onAccepted (refused number values) next = refused number values
+
+-- One of two buffers: written where the answer accepts, else as it was.
+abbrev pub ifAccepted : Answer → List ℕ → List ℕ → List ℕ
+ifAccepted (accepted figures) written entry = written
+ifAccepted (refused number values) written entry = entry

@@ -1,4 +1,4 @@
-// The stored trees, good and damaged, run through `btree_v2::collect::collect_btree_v2_records`, and a leaf without its checksum; each answer
+// The stored trees, good and damaged, run through `btree_v2_collect::collect::collect_btree_v2_records`, and a leaf without its checksum; each answer
 // is counted once.
 ghost use mathlib.Core.Path.{_≡_};
 ghost use Prim.Native.Nat.{_+_, _≤_, _<_};
@@ -8,8 +8,8 @@ use crate::collect_answers::COLLECT_ROWS;
 use crate::rows;
 use crate::rows::MARK;
 use crate::tally::Tally;
-use btree_v2::Collected;
-use btree_v2::collect;
+use btree_v2_collect::Collected;
+use btree_v2_collect::collect;
 use btree_v2_header::BTreeV2Header;
 
 // The seven numbers of the answer.

@@ -1,42 +1,44 @@
 -- Demand 3 on the three calls, from the complete return of records on the definitions.
 use mathlib.Core.Path.{_≡_, refl, sym, _∙_, ap}
 use mathlib.Core.List.{List, [], _∷_, _++_}
-use Prim.Native.Nat.{ℕ, _+_, _-_, _*_, _^_, _≤_, _<_}
+use Prim.Native.Nat.{ℕ, _+_, _-_, _*_, _≤_, _<_}
 use native.Mathlib.Omega.{arith}
 use lib.ListN.{length, getD, take, drop}
 use lib.Seq.{take-at, drop-at}
-use Rattle.fields.specs.Numbers.{part, held}
+use Rattle.numbers.specs.Numbers.{held}
 use Rattle.refusal.specs.declared.Refusal.{Refusal}
-use Rattle.refusal.specs.Answer.{Answer, accepted, refused, refusalOf, cells, verdictOf}
+use Rattle.refusal.specs.Answer.{accepted, refused, cells, verdictOf}
 use Rattle.refusal.proofs.Answers.{refused-is}
 use Rattle.plan.specs.declared.PlanAnswer.{PlanAnswer}
 use Rattle.plan.specs.declared.BTreeV2Plan.{BTreeV2Plan}
 use Rattle.plan.specs.Tree
 use Rattle.plan.specs.Planned.{planned, planFigures, planAnswerOf}
 use Rattle.plan.proofs.Checks.{Plannable, accepted-plannable}
-use Rattle.format.specs.Writing as Writing
-use Rattle.format.specs.Writing.{Request, depthOf, nodesOf, headerOf, imageOf, written, headerExit, imageExit, over}
-use Rattle.format.specs.Walk.{Counts, Run, fine, stopped, noCounts}
-use Rattle.format.specs.Reading as Reading
-use Rattle.format.specs.Reading.{Header, headerFigures, parsed, collected, runCells, runOutput, countCells}
-use Rattle.format.specs.Return.{Stands, headerWritten, Returned}
-use Rattle.format.proofs.Accepted.{Accepts, accepts, plan-accepted}
-use Rattle.format.proofs.Fitting.{image-long}
-use Rattle.format.proofs.HeaderReturn.{length-headerOf}
-use Rattle.format.proofs.Outcomes.{header-put, image-put}
-use Rattle.format.proofs.Returned.{returns}
+use Rattle.format.specs.Request as Writing
+use Rattle.format.specs.Request.{Request, depthOf, nodesOf, headerOf, imageOf}
+use Rattle.write_checks.specs.Writing.{written, headerExit, imageExit}
+use Rattle.numbers.specs.Places.{over}
+use Rattle.btree_v2_collect.specs.Walk.{Counts, fine, stopped, noCounts}
+use Rattle.btree_v2_collect.specs.Collect as Reading
+use Rattle.btree_v2_header.specs.Header.{parsed}
+use Rattle.btree_v2_collect.specs.Collect.{collected, runCells, runOutput, countCells}
+use Rattle.round_trip.specs.Return.{Stands, headerWritten, Returned}
+use Rattle.write_checks.proofs.Accepted.{Accepts, accepts, plan-accepted}
+use Rattle.write_checks.proofs.Fitting.{image-long}
+use Rattle.format.proofs.HeaderLengths.{length-headerOf}
+use Rattle.write_checks.proofs.Outputs.{header-put, image-put}
+use Rattle.round_trip.proofs.Returned.{returns}
 use Rattle.btree_v2_header.specs.declared.BTreeV2Header.{BTreeV2Header}
 use Rattle.btree_v2_header.specs.declared.HeaderAnswer.{HeaderAnswer}
 use Rattle.btree_v2_header.specs.declared.HeaderAnswer.the-variants as header
 use Rattle.refusal.specs.declared.Verdict.{Verdict}
 use Rattle.refusal.specs.declared.Verdict.the-variants as verdict
-use Rattle.btree_v2.specs.declared.Tally.{Tally}
-use Rattle.btree_v2.specs.declared.Collected.{Collected}
+use Rattle.btree_v2_collect.specs.declared.Tally.{Tally}
+use Rattle.btree_v2_collect.specs.declared.Collected.{Collected}
 use Rattle.btree_v2_header.specs.Answers.{fieldsOf, headerAnswerOf}
-use Rattle.btree_v2.specs.Answers.{collectedCells}
+use Rattle.btree_v2_collect.specs.Answers.{collectedCells}
 use Rattle.btree_v2_write.specs.Call.{Wrote}
 use Rattle.round_trip.specs.declared.RoundTrip.{RoundTrip}
-use Rattle.round_trip.specs.Nodes.{nodeRecords}
 use Rattle.round_trip.specs.ThreeCalls.{Lent, readBack, Holds, Complete, Answered}
 use Rattle.round_trip.proofs.Roots.{root-address, root-records}
 

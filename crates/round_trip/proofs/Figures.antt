@@ -3,14 +3,14 @@ use mathlib.Core.Path.{_≡_, refl}
 use mathlib.Core.List.{List, map}
 use Prim.Native.Nat.{ℕ}
 use Rattle.checksum.proofs.Promise.{computed}
-use Rattle.fields.specs.Numbers.{fieldSize, width, leastFrom, le}
+use Rattle.numbers.specs.Numbers.{fieldSize, width, leastFrom, le}
 use Rattle.refusal.specs.Answer.{cells}
 use Rattle.node_info.specs.Capacity.{leafCapacity, countWidth, pointerSize, internalCapacity, subtreeCapacity, totalWidth, nodeCapacity, depthFrom, depthFor}
 use Rattle.node_info.specs.Table.{columnFrom, column, infoAt}
 use Rattle.plan.specs.Tree.{sumKids, between, count, size, below, nodes, leaves}
 use Rattle.plan.specs.Planned.{taken, dealt, children, kidsOf, planTree, anyOf, thin, planDepth, planned, planFigures, planAnswer}
 use Rattle.format.specs.Bytes.{summed, address, headerBytes}
-use Rattle.format.specs.Writing.{formOf, rootOf, rootRecordsOf, headerOf}
+use Rattle.format.specs.Request.{formOf, rootOf, rootRecordsOf, headerOf}
 use Rattle.round_trip.specs.Nodes.{joinKids, counts}
 use Rattle.round_trip.specs.Figures.{betweenFrom, rootRecords, plan, headerSize, figures}
 

@@ -1,15 +1,15 @@
 -- The root is the plan's last node: its address and its records.
 use mathlib.Core.Path.{_≡_, refl}
-use mathlib.Core.List.{List, [], _∷_, _++_}
-use Prim.Native.Nat.{ℕ, zero, suc, _+_, _-_, _*_}
+use mathlib.Core.List.{List}
+use Prim.Native.Nat.{ℕ, zero, suc, _+_, _-_}
 use native.Mathlib.Nat.{add-zero}
 use native.Mathlib.Omega.{arith}
 use lib.ListN.{length, getD, length-append}
 use lib.Seq.{getD-append-add}
-use Rattle.plan.specs.Tree.{Kids, last, more, Tree, sumKids, between, count, below, nodes}
+use Rattle.plan.specs.Tree.{Kids, last, more, Tree, sumKids, count, below, nodes}
 use Rattle.plan.specs.Planned.{planned}
 use Rattle.format.specs.Bytes.{address}
-use Rattle.format.specs.Writing.{Request, formOf, depthOf, nodesOf, rootOf, rootRecordsOf}
+use Rattle.format.specs.Request.{Request, formOf, depthOf, nodesOf, rootOf, rootRecordsOf}
 use Rattle.round_trip.specs.Nodes.{joinKids, counts, nodeAddress, nodeRecords}
 
 length-join : {A : Type 0} (f : A → List ℕ) (g : A → ℕ) → ((t : A) → length (f t) ≡ g t) → (ts : Kids A) → length (joinKids f ts) ≡ sumKids g ts

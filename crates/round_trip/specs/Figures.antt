@@ -3,12 +3,12 @@ use Prim.Native.Nat.{ℕ, zero, suc, _+_}
 use mathlib.Core.List.{List, [], _∷_}
 use lib.ListN.{length, take}
 use Rattle.checksum.specs.Lookup3.{lookup3}
-use Rattle.fields.specs.Numbers.{width}
+use Rattle.numbers.specs.Numbers.{width}
 use Rattle.refusal.specs.Answer.{cells}
 use Rattle.node_info.specs.Table.{infoAt}
 use Rattle.plan.specs.Tree.{Kids, last, more, Tree, size}
 use Rattle.plan.specs.Planned.{planDepth, planned, planAnswer}
-use Rattle.format.specs.Writing.{headerOf}
+use Rattle.format.specs.Request.{headerOf}
 use Rattle.btree_v2_write.specs.Call.{asked}
 use Rattle.round_trip.specs.Nodes.{counts}
 

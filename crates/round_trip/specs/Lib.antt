@@ -2,3 +2,5 @@
 pub mod Nodes
 pub mod ThreeCalls
 pub mod Figures
+pub mod Looks
+pub mod Return

@@ -5,7 +5,7 @@ use mathlib.Core.List.{List, [], _∷_, _++_}
 use lib.ListN.{getD}
 use Rattle.plan.specs.Tree.{Kids, last, more, Tree, between}
 use Rattle.plan.specs.Planned.{planned}
-use Rattle.format.specs.Writing.{Request, depthOf}
+use Rattle.format.specs.Request.{Request, depthOf}
 
 -- The lists that f gives of the children, one after another.
 unfoldable pub joinKids : {A : Type 0} → (A → List ℕ) → Kids A → List ℕ

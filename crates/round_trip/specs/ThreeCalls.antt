@@ -4,18 +4,21 @@ use mathlib.Core.Path.{_≡_}
 use mathlib.Core.List.{List, [], _∷_}
 use Prim.Native.Nat.{ℕ, _+_, _-_, _*_, _≤_}
 use lib.ListN.{length, getD, take, drop}
-use Rattle.fields.specs.Numbers.{part}
+use Rattle.numbers.specs.Numbers.{part}
 use Rattle.refusal.specs.Answer.{Answer, accepted, refused, verdictOf}
 use Rattle.plan.specs.declared.BTreeV2Plan.{BTreeV2Plan}
 use Rattle.plan.specs.declared.PlanAnswer.the-variants.{Planned}
 use Rattle.plan.specs.Planned.{planAnswerOf}
-use Rattle.format.specs.Writing
-use Rattle.format.specs.Writing.{Request, headerExit, imageExit}
-use Rattle.format.specs.Walk.{Run, stopped, noCounts}
-use Rattle.format.specs.Reading
-use Rattle.format.specs.Reading.{Header, runCells, runOutput}
+use Rattle.write_checks.specs.Writing as writer
+use Rattle.format.specs.Request.{Request}
+use Rattle.write_checks.specs.Writing.{headerExit, imageExit}
+use Rattle.btree_v2_collect.specs.Walk.{Run, stopped, noCounts}
+use Rattle.btree_v2_header.specs.Header as reader
+use Rattle.btree_v2_collect.specs.Collect as collector
+use Rattle.btree_v2_header.specs.Header.{Header}
+use Rattle.btree_v2_collect.specs.Collect.{runCells, runOutput}
 use Rattle.btree_v2_header.specs.Answers.{headerAnswerOf}
-use Rattle.btree_v2.specs.Answers.{collectedCells}
+use Rattle.btree_v2_collect.specs.Answers.{collectedCells}
 use Rattle.round_trip.specs.declared.RoundTrip.{RoundTrip}
 use Rattle.round_trip.specs.Nodes.{nodeAddress, nodeRecords}
 
@@ -43,12 +46,12 @@ headerFrom figures =
 
 -- Collecting the tree of the header that was read; a refused header ends the reading with its refusal.
 abbrev pub onHeader : Answer → List ℕ → ℕ → List ℕ → Run
-onHeader (accepted figures) file ow output = Reading.collected file (headerFrom figures) ow output
+onHeader (accepted figures) file ow output = collector.collected file (headerFrom figures) ow output
 onHeader (refused number values) file ow output = stopped number values noCounts output
 
 -- The header reader at the place, and the collector on its answer.
 unfoldable pub readBack : Request → Lent → Run
-readBack q s = onHeader (Reading.parsed (s .file) (s .place) (q .ow) (q .lw)) (s .file) (q .ow) (s .output)
+readBack q s = onHeader (reader.parsed (s .file) (s .place) (q .ow) (q .lw)) (s .file) (q .ow) (s .output)
 
 -- The file holds, at the place, the header's bytes that the write left, and from start on the bytes of its nodes, NS for each of the nodes that
 -- it answered.
@@ -73,10 +76,10 @@ pub record Complete (q : Request) (p : BTreeV2Plan) (recs out : List ℕ) (r : R
 
 -- The three calls: the answers and the buffers at exit are those of the three definitions; and demand 3.
 pub record Answered (q : Request) (s : Lent) (r : RoundTrip) (headerLast imageLast outputLast : List ℕ) : Type 0 where
-  pub written : planAnswerOf (r .written) ≡ Writing.written q (s .records) (s .header) (s .image)
+  pub written : planAnswerOf (r .written) ≡ writer.written q (s .records) (s .header) (s .image)
   pub headerLeft : headerLast ≡ headerExit q (s .records) (s .header) (s .image)
   pub imageLeft : imageLast ≡ imageExit q (s .records) (s .header) (s .image)
-  pub parsed : headerAnswerOf (r .header) ≡ Reading.parsed (s .file) (s .place) (q .ow) (q .lw)
+  pub parsed : headerAnswerOf (r .header) ≡ reader.parsed (s .file) (s .place) (q .ow) (q .lw)
   pub collected : collectedCells (r .collected) ≡ runCells (readBack q s)
   pub outputLeft : outputLast ≡ runOutput (readBack q s)
   pub complete : (p : BTreeV2Plan) → r .written ≡ Planned p → 1 ≤ q .n → Holds q p (s .file) (s .place) headerLast imageLast

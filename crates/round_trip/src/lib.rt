@@ -2,8 +2,8 @@
 
 ghost use Rattle.btree_v2_write.specs.Call.{asked};
 ghost use Rattle.round_trip.specs.ThreeCalls.{Answered};
-use btree_v2::Collected;
-use btree_v2::Tally;
+use btree_v2_collect::Collected;
+use btree_v2_collect::Tally;
 use btree_v2_header::BTreeV2Header;
 use btree_v2_header::HeaderAnswer;
 use plan::PlanAnswer;
@@ -49,7 +49,7 @@ pub fn round_trip(
     let parsed = BTreeV2Header::parse(file, place, offset_size, length_size);
     match parsed {
         HeaderAnswer::Parsed(found) => {
-            let collected = btree_v2::collect::collect_btree_v2_records(
+            let collected = btree_v2_collect::collect::collect_btree_v2_records(
                 file,
                 found,
                 offset_size,

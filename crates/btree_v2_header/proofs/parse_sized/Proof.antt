@@ -1,5 +1,5 @@
 -- `parse_sized`: each way out is one of `parsed`.
-use Rattle.checks.proofs.Checks.{bytes-there, test-holds, test-fails}
+use Rattle.read_checks.proofs.Checks.{bytes-there, test-holds, test-fails}
 use Rattle.btree_v2_header.proofs.Headers.{stop-root, stop-count, stop-length-size, stop-total, stop-sum, stop-checksum, passed, fields-there}
 use borrow.Author.Needs.{needs}
 use Rattle.btree_v2_header.proofs.parse_sized.Statement.{statement}

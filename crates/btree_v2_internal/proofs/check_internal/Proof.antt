@@ -1,6 +1,6 @@
 -- `check_internal` makes its tests in their order.
 use Rattle.btree_v2_internal.proofs.Nodes.{internal-front, internal-signature, internal-rows, internal-pointers, internal-fine, internal-size, pointers-fit}
-use Rattle.checks.proofs.Nodes.{product-fits, rows-end-fits, node-in}
+use Rattle.read_checks.proofs.Nodes.{product-fits, rows-end-fits, node-in}
 use borrow.Author.Needs.{needs}
 use native.Mathlib.Omega.{arith}
 use Rattle.btree_v2_internal.proofs.check_internal.Statement.{statement}

@@ -1,6 +1,6 @@
 -- `read_pointer` reads the fields at the pointer.
 use Rattle.btree_v2_internal.proofs.Nodes.{pointers-fit, before-fits, pointer-is}
-use Rattle.checks.proofs.Nodes.{product-fits, rows-end-fits}
+use Rattle.read_checks.proofs.Nodes.{product-fits, rows-end-fits}
 use borrow.Author.Needs.{needs}
 use native.Mathlib.Omega.{arith}
 use Rattle.btree_v2_internal.proofs.read_pointer.Statement.{statement}

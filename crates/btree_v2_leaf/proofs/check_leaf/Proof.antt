@@ -1,6 +1,6 @@
 -- `check_leaf` makes its tests in their order.
 use Rattle.btree_v2_leaf.proofs.Leaves.{rows-there, rows-fit, leaf-front, leaf-signature, leaf-rows, leaf-unchecked, leaf-checked}
-use Rattle.checks.proofs.Nodes.{product-fits, front-fits}
+use Rattle.read_checks.proofs.Nodes.{product-fits, front-fits}
 use borrow.Author.Needs.{needs}
 use native.Mathlib.Omega.{arith}
 use Rattle.btree_v2_leaf.proofs.check_leaf.Statement.{statement}

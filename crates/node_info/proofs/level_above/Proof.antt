@@ -1,6 +1,6 @@
 -- `level_above` computes C, held at 2^64 - 1, and its width.
 use Rattle.node_info.proofs.Growing.{one-more}
-use Rattle.fields.proofs.Numbers.{held-step}
+use Rattle.numbers.proofs.Numbers.{held-step}
 use borrow.Author.Needs.{needs}
 use Rattle.node_info.proofs.level_above.Statement.{statement}
 use Rattle.node_info.proofs.level_above.Tie as tie

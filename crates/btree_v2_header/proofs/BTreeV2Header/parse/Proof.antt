@@ -1,5 +1,5 @@
 -- `parse`: each way out is one of `parsed`.
-use Rattle.checks.proofs.Checks.{bytes-there, test-holds, test-fails}
+use Rattle.read_checks.proofs.Checks.{bytes-there, test-holds, test-fails}
 use Rattle.btree_v2_header.proofs.Headers.{stop-start, stop-signature, stop-fixed, stop-version, stop-offset-size, begun, byte-there, byte-fits}
 use mathlib.Core.Path.{refl}
 use lib.Dec.{lit<}

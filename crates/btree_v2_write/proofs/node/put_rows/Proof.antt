@@ -1,5 +1,5 @@
 -- The rows go to their place.
-use Rattle.fields.proofs.Copying.{part-put}
+use Rattle.numbers.proofs.Copying.{part-put}
 use borrow.Author.Needs.{needs}
 use Rattle.btree_v2_write.proofs.node.put_rows.Statement.{statement}
 use Rattle.btree_v2_write.proofs.node.put_rows.Tie as tie

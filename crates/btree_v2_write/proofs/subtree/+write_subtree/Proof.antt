@@ -1,6 +1,6 @@
 -- The cycle of `write_subtree`: the depth falls. The loop over the children from child 1 on: what is left to store, stored at the node reached,
 -- gives all of it.
-use Prim.Native.Nat.{ℕ, _<_}
+use Prim.Native.Nat.{ℕ, _<_, _+_, _-_}
 use borrow.Fn.Kinds.{In}
 use borrow.Fn.PlainCycle.{Measures, is, falls, and}
 use Rattle.btree_v2_write.proofs.subtree.write_subtree.Reads as write-subtree
@@ -12,10 +12,9 @@ use Rattle.btree_v2_write.proofs.node.write_leaf.Reads as write-leaf-re
 use Rattle.plan.proofs.deal.Reads as deal-reads
 use Rattle.btree_v2_write.proofs.subtree.+write_subtree.{statement}
 use Rattle.btree_v2_write.proofs.subtree.+write_subtree.Tie.{close}
-use Prim.Native.Nat.{_+_, _-_}
 use native.Mathlib.Omega.{arith}
 use borrow.Author.Needs.{needs}
-use Rattle.btree_v2_write.proofs.Subtrees.{KidsLeft, leaf-room, leaf-fits, leaf-done, base-few, kept-small, width-small, share-few, first-asked, loop-start, place-fits, kid-ready, total-fits, nodes-fit, loop-turn, all-fit, root-fits, root-room, root-done}
+use Rattle.btree_v2_write.proofs.Subtrees.{KidsLeft, leaf-room, leaf-fits, leaf-done, base-few, width-small, share-few, first-asked, loop-start, place-fits, kid-ready, total-fits, nodes-fit, loop-turn, all-fit, root-fits, root-room, root-done}
 
 abbrev μ-write-subtree : Measures 4 write-subtree-kinds.ps ℕ
 μ-write-subtree κs a = a .1 .1 .1 .1 .1 .0

@@ -1,7 +1,6 @@
 -- The loop of `records` keeps the array's length.
 use mathlib.Core.Path.{_≡_}
 use Prim.Native.Nat.{_-_, _≤_}
-use native.Mathlib.Omega.{arith}
 use lib.ListN.{length, length-set}
 use borrow.Author.Needs.{needs}
 use Rattle.replay.proofs.image_replay.records.Statement.{statement}

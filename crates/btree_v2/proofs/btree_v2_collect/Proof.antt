@@ -1,0 +1,14 @@
+-- `btree_v2_collect` puts what the collector answers.
+use mathlib.Core.Path.{_∙_}
+use borrow.Author.Needs.{needs}
+use Rattle.btree_v2.proofs.btree_v2_collect.Statement.{statement}
+use Rattle.btree_v2.proofs.btree_v2_collect.Tie as tie
+
+pub btree-v2-collect-spec : {M : Type 1} → statement M
+btree-v2-collect-spec =
+    tie.close
+    (tie.spec
+    (λ c κs. search needs)
+    (λ c κs. search needs)
+    (λ c. search needs)
+    (λ c. (c .put-collected .ensures ∙ (c .before .before .before .before .collect-btree-v2-records .ensures .0), (c .before .before .before .before .collect-btree-v2-records .ensures .1))))

@@ -1,0 +1,14 @@
+-- `btree_v2_parse` puts what the header reader answers.
+use mathlib.Core.Path.{refl}
+use Rattle.refusal.proofs.Answers.{put-is}
+use borrow.Author.Needs.{needs}
+use Rattle.btree_v2.proofs.btree_v2_parse.Statement.{statement}
+use Rattle.btree_v2.proofs.btree_v2_parse.Tie as tie
+
+pub btree-v2-parse-spec : {M : Type 1} → statement M
+btree-v2-parse-spec =
+    tie.close
+    (tie.spec
+    (λ c κs. search needs)
+    (λ c κs. search needs)
+    (λ c. put-is (c .before .before .parse .ensures) refl (c .put-header .ensures)))

@@ -1,0 +1,11 @@
+-- The laws that the crate's proofs cite.
+mod Calls
+mod Holding
+mod Nodes
+mod Putting
+mod Steps
+pub mod Outcomes
+pub mod Fronts
+pub mod Puts
+pub mod Sound
+pub mod Balance

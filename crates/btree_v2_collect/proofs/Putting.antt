@@ -1,0 +1,99 @@
+-- Records put out at once: as many as fit, and 15 where one does not, are what the definition puts out one by one.
+use mathlib.Core.Path.{_≡_}
+use mathlib.Core.List.{List, [], _∷_}
+use Prim.Native.Nat.{ℕ, _+_, _-_, _*_, _/_, _^_, _≤_, _<_}
+use native.Mathlib.Nat.{add-zero, add-mul, mul-le-mul-right, le-mul-of-pos-right, div-mul-le-self, div-lt-iff-lt-mul, le-refl}
+use native.Mathlib.Omega.{arith}
+use mir.Syntax.{w64}
+use mir.Val.{Fits}
+use lib.ListN.{length, getD}
+use Rattle.numbers.specs.Numbers.{held, part}
+use Rattle.numbers.specs.Places.{stored, put}
+use Rattle.numbers.proofs.Copying.{part-put}
+use Rattle.numbers.proofs.Lists.{length-part, length-stored}
+use Rattle.btree_v2_collect.specs.Walk.{fine, oneLeaf, oneInternal, oneInner, putRecords}
+use Rattle.btree_v2_collect.proofs.Outcomes.{put-some}
+use Rattle.btree_v2_collect.proofs.Puts.{puts-records}
+use Rattle.refusal.specs.declared.Refusal.the-variants.{OutputTooShort}
+use Rattle.refusal.specs.declared.Verdict.the-variants.{Accepted, Refused}
+use Rattle.btree_v2_collect.specs.declared.collect.TreeSizes.{TreeSizes}
+use Rattle.btree_v2_collect.specs.Collecting.{countsOf, heldCounts, sourceAt, Within, Walked}
+use Rattle.btree_v2_collect.proofs.Holding.{held-held}
+
+-- One more of a tally's counts.
+module _ (t : List ℕ) (x : ℕ) where
+  pub leaf-more : x ≡ held (getD t 1 0 + 1)
+      → heldCounts (record { records = getD t 0 0; leaves = x; internals = getD t 2 0; inner = getD t 3 0 }) ≡ heldCounts (oneLeaf (countsOf t))
+  leaf-more e = rw (e, held-held)
+
+  pub internal-more : x ≡ held (getD t 2 0 + 1)
+      → heldCounts (record { records = getD t 0 0; leaves = getD t 1 0; internals = x; inner = getD t 3 0 }) ≡ heldCounts (oneInternal (countsOf t))
+  internal-more e = rw (e, held-held)
+
+  pub inner-more : x ≡ held (getD t 3 0 + 1)
+      → heldCounts (record { records = getD t 0 0; leaves = getD t 1 0; internals = getD t 2 0; inner = x }) ≡ heldCounts (oneInner (countsOf t))
+  inner-more e = rw (e, held-held)
+
+-- How many records fit.
+abbrev pub Fitting : ℕ → ℕ → ℕ → ℕ → Type 0
+Fitting n k room r = (r ≤ n) × (r * k ≤ room) × (r < n → room < (r + 1) * k)
+
+module _ (n k room : ℕ) (some : 0 < k) where
+  pub fitting-all : n * k ≤ room → Fitting n k room n
+  fitting-all h = (le-refl n, h, λ l. omega arith)
+
+  pub fitting-some : room < n * k → Fitting n k room (room / k)
+  fitting-some h = (
+    omega (arith, div-lt-iff-lt-mul {k = k} {x = room} {y = n} some .1 h),
+    div-mul-le-self room k,
+    λ l. div-lt-iff-lt-mul {k = k} {x = room} {y = room / k + 1} some .0 (omega arith),
+  )
+
+-- `put_records`.
+module _ (file : List ℕ) (z : TreeSizes) (from n : ℕ) (t o : List ℕ) (some : 0 < z .«record_size»)
+    (there : from + n * z .«record_size» ≤ length file) (within : Within z t o) (fit : ℕ)
+    (fits : Fitting n (z .«record_size») (length o - getD t 0 0 * z .«record_size») fit) where
+  -- What fits is there, and has room; so the count of records fits a word.
+  pub part-there : from + fit * z .«record_size» ≤ length file
+  part-there = omega (arith, mul-le-mul-right (z .«record_size») (fits .0))
+
+  part-room : getD t 0 0 * z .«record_size» + fit * z .«record_size» ≤ length o
+  part-room = omega (arith, fits .1)
+
+  rows : (getD t 0 0 + fit) * z .«record_size» ≤ length o
+  rows = rw add-mul part-room
+
+  pub rows-few : length o < 2 ^ 64 → Fits w64 (getD t 0 0 + fit)
+  rows-few h = omega (arith, rows, le-mul-of-pos-right {m = z .«record_size»} (getD t 0 0 + fit) some)
+
+  module _ (o1 : List ℕ)
+      (put : o1 ≡ put o (getD t 0 0 * z .«record_size») (part file from (from + fit * z .«record_size» - from))) where
+    rows-stored : o1 ≡ stored o (getD t 0 0 * z .«record_size») (part file from (fit * z .«record_size»))
+    rows-stored = part-put o file o1 (getD t 0 0 * z .«record_size») from (fit * z .«record_size») part-room part-there put
+
+    long : length o1 ≡ length o
+    long =
+        rw (rows-stored, length-stored o (getD t 0 0 * z .«record_size») (part file from (fit * z .«record_size»)) (rw (length-part file from (fit * z .«record_size») part-there) part-room))
+
+    abbrev counted : List ℕ
+    counted = (getD t 0 0 + fit) ∷ getD t 1 0 ∷ getD t 2 0 ∷ getD t 3 0 ∷ []
+
+    runs : putRecords (sourceAt file z) fit from (countsOf t) o ≡ fine (countsOf counted) o1
+    unfolding sourceAt
+    runs = rw rows-stored (simp add-zero at (puts-records (sourceAt file z) fit from part-there .runs (countsOf t) o rows))
+
+    pub put-all : n ≤ fit
+        → Walked z (putRecords (sourceAt file z) n from (countsOf t) o) Accepted counted o1
+    put-all h =
+        let e : n ≡ fit = omega (arith, fits .0) in
+        record { ends = rw (e, runs); within = rw long rows }
+
+    pub put-part : fit < n
+        → Walked z (putRecords (sourceAt file z) n from (countsOf t) o) (Refused (OutputTooShort (length o1))) counted o1
+    unfolding sourceAt
+    put-part h =
+        let short : length o1 < (getD t 0 0 + fit + 1) * z .«record_size» = rw long (omega (arith, fits .2 h)) in
+        record {
+          ends = rw (put-some (sourceAt file z) fit n from (countsOf t) (countsOf counted) o o1 h runs short);
+          within = rw long rows;
+        }

@@ -1,0 +1,237 @@
+-- The collector's steps, one after another: one law for each way out of them, in the forms in which the code has it.
+use mathlib.Core.Path.{_≡_, refl, sym, ap, fun-ext, _∙_}
+use mathlib.Core.List.{List, []}
+use Prim.Native.Nat.{ℕ, zero, suc, _+_, _-_, _*_, _/_, _<_}
+use native.Mathlib.Nat.{zero-add, add-zero, suc-add}
+use native.Mathlib.Omega.{arith}
+use Rattle.refusal.specs.declared.Refusal.{Refusal}
+use Rattle.refusal.specs.Answer.{Answer, accepted, verdictOf}
+use Rattle.btree_v2_collect.specs.Walk.{Counts, Run, fine, stopped, andThen, ifPassed, oneLeaf, oneInternal, oneInner, Tests, putRecord, putRecords, leafRun, childRun, innerRun, childrenRun, nodeRun}
+use Rattle.btree_v2_internal.specs.Internal.{Source, pointerPlace, childAddress, childRecords, internalTest}
+use Rattle.btree_v2_leaf.specs.Leaf.{leafTest}
+use Rattle.btree_v2_collect.specs.Collect.{collectTests}
+use Rattle.refusal.specs.declared.Verdict.{Verdict}
+use Rattle.refusal.specs.declared.Verdict.the-variants.{Accepted, Refused}
+use Rattle.btree_v2_collect.specs.declared.collect.TreeSizes.{TreeSizes}
+use Rattle.btree_v2_internal.specs.declared.Node.{Node}
+use Rattle.btree_v2_collect.specs.Collecting.{countsOf, runOf, heldCounts, heldRun, sourceAt, testsAt, Readable, Within, Walked, nodeWalk, innerWalk, childrenWalk}
+use Rattle.refusal.proofs.Answers.{refused-is}
+use Rattle.btree_v2_collect.proofs.Holding.{Alike, from-held, records-held, alike-after, count-alike, puts-alike, inner-alike, children-alike, node-alike}
+
+-- Counting a leaf or an internal node puts nothing out.
+pub leaf-within : (z : TreeSizes) (t t1 o : List ℕ) → heldCounts (countsOf t1) ≡ heldCounts (oneLeaf (countsOf t)) → Within z t o → Within z t1 o
+leaf-within z t t1 o e h = rw (records-held (oneLeaf (countsOf t)) (countsOf t1) e) h
+
+pub internal-within : (z : TreeSizes) (t t1 o : List ℕ) → heldCounts (countsOf t1) ≡ heldCounts (oneInternal (countsOf t)) → Within z t o
+    → Within z t1 o
+internal-within z t t1 o e h = rw (records-held (oneInternal (countsOf t)) (countsOf t1) e) h
+
+-- A step, and what follows it.
+module _ (next : Counts → List ℕ → Run) (alike : Alike next) {z : TreeSizes} {x : Run} {v : Verdict} {t o : List ℕ} (walked : Walked z x v t o) where
+  after : heldRun (andThen x next) ≡ heldRun (andThen (runOf v t o) next)
+  after =
+      sym (alike-after next alike x) ∙ ap (λ y. heldRun (andThen y next)) (sym (walked .ends)) ∙ alike-after next alike (runOf v t o)
+
+  go-on : v ≡ Accepted → heldRun (andThen x next) ≡ heldRun (next (countsOf t) o)
+  go-on e = after ∙ rw e
+
+  hand-up : (q : Refusal) → v ≡ Refused q → Walked z (andThen x next) v t o
+  hand-up q e =
+      let stays : andThen (runOf v t o) next ≡ runOf v t o = rw (e, refused-is q .2) in
+      record { ends = sym (after ∙ ap heldRun stays); within = walked .within }
+
+-- A test that is refused, and one that is passed.
+test-stops : (test : Answer) (v : Verdict) (t o : List ℕ) (x : Run) (q : Refusal) → verdictOf v ≡ test → v ≡ Refused q
+    → ifPassed test (countsOf t) o x ≡ runOf v t o
+test-stops test v t o x q h e = rw (← h, e, refused-is q .2)
+
+test-passes : (test : Answer) (v : Verdict) (c : Counts) (o : List ℕ) (x : Run) → verdictOf v ≡ test → v ≡ Accepted
+    → ifPassed test c o x ≡ x
+test-passes test v c o x h e = rw (← h, e)
+
+-- The same walk, put otherwise.
+walked-as : {z : TreeSizes} {x y : Run} {v : Verdict} {t o : List ℕ} → heldRun x ≡ heldRun y → Walked z x v t o → Walked z y v t o
+walked-as e walked = record { ends = walked .ends ∙ e; within = walked .within }
+
+-- An accepted answer, taken apart.
+pub walked-accepted : (z : TreeSizes) (x : Run) (v : Verdict) (t o : List ℕ) → v ≡ Accepted → Walked z x v t o → Walked z x Accepted t o
+walked-accepted z x v t o e walked = rw e at walked
+
+then-fine : (x : Run) → andThen x fine ≡ x
+then-fine (fine c o) = refl
+then-fine (stopped number values c o) = refl
+
+then-same : (x : Run) (next : Counts → List ℕ → Run) → ((c : Counts) (o : List ℕ) → next c o ≡ fine c o) → andThen x next ≡ x
+then-same (fine c o) next h = h c o
+then-same (stopped number values c o) next h = refl
+
+-- Steps are grouped as one likes.
+module _ (f g h : Counts → List ℕ → Run) where
+  then-two : (x : Run) → andThen x (λ c o. andThen (f c o) g) ≡ andThen (andThen x f) g
+  then-two (fine c o) = refl
+  then-two (stopped number values c o) = refl
+
+  then-three : (x : Run) → andThen x (λ c o. andThen (andThen (f c o) g) h) ≡ andThen (andThen (andThen x f) g) h
+  then-three (fine c o) = refl
+  then-three (stopped number values c o) = refl
+
+  then-four : (e : Counts → List ℕ → Run) (x : Run)
+      → andThen x (λ c o. andThen (e c o) (λ c1 o1. andThen (andThen (f c1 o1) g) h)) ≡ andThen (andThen (andThen x (λ c o. andThen (e c o) f)) g) h
+  then-four e (fine c o) = then-three (e c o)
+  then-four e (stopped number values c o) = refl
+
+-- The first m + 1 of some children, the record between, and the k + 1 others.
+module _ (s : Source) (tests : Tests) (d a n : ℕ) (node : ℕ → ℕ → Counts → List ℕ → Run) where
+  abbrev run : ℕ → ℕ → Counts → List ℕ → Run
+  run = childrenRun s tests d a n node
+
+  abbrev between : ℕ → Counts → List ℕ → Run
+  between = innerRun s tests d a n node
+
+  children-split : (m k i : ℕ) (c : Counts) (o : List ℕ)
+      → run (m + suc k) i c o ≡ andThen (andThen (run m i c o) (between (i + m))) (run k (i + m + 1))
+  unfolding childrenRun
+  children-split zero k i c o = rw (zero-add, add-zero) (then-two (between i) (run k (i + 1)) fine (childRun s tests d a n node i c o))
+  children-split (suc m) k i c o =
+      let e : i + 1 + m ≡ i + suc m = omega arith in
+      rw (suc-add, ← e)
+      (ap (λ f. andThen (childRun s tests d a n node i c o) (λ c1 o1. andThen (between i c1 o1) f))
+      (fun-ext (λ c1. fun-ext (children-split m k (i + 1) c1)))
+      ∙ then-four (run m (i + 1)) (between (i + 1 + m)) (run k (i + 1 + m + 1)) (between i) (childRun s tests d a n node i c o))
+
+module _ (file : List ℕ) (z : TreeSizes) where
+  abbrev s : Source
+  s = sourceAt file z
+
+  abbrev tests : Tests
+  tests = testsAt file z
+
+  -- A leaf.
+  module _ (x : Node) (t o : List ℕ) (v : Verdict) (tested : verdictOf v ≡ leafTest file (z .«record_size») (x .address) (x .records)) where
+    pub leaf-stops : (q : Refusal) → v ≡ Refused q → Within z t o
+        → Walked z (nodeWalk file z 0 (x .address) (x .records) (countsOf t) o) v t o
+    unfolding nodeWalk nodeRun leafRun collectTests sourceAt
+    leaf-stops q e within = record { ends = sym (ap heldRun (test-stops _ v t o _ q tested e)); within = within }
+
+    pub leaf-reads : (t1 : List ℕ) (v1 : Verdict) (t2 o1 : List ℕ) → v ≡ Accepted → heldCounts (countsOf t1) ≡ heldCounts (oneLeaf (countsOf t))
+        → Walked z (putRecords s (x .records) (x .address + 6) (countsOf t1) o) v1 t2 o1
+        → Walked z (nodeWalk file z 0 (x .address) (x .records) (countsOf t) o) v1 t2 o1
+    unfolding nodeWalk nodeRun leafRun collectTests sourceAt
+    leaf-reads t1 v1 t2 o1 e counts =
+        walked-as
+        (from-held (putRecords s (x .records) (x .address + 6)) (puts-alike s (x .records) (x .address + 6)) (oneLeaf (countsOf t)) (countsOf t1) o counts
+        ∙ ap heldRun (sym (test-passes _ v (countsOf t) o _ tested e)))
+
+  -- A node of level d.
+  module _ (d a n : ℕ) (t o : List ℕ) where
+    pub node-leaf : (v : Verdict) (t1 o1 : List ℕ) → d ≡ 0 → Walked z (nodeWalk file z 0 a n (countsOf t) o) v t1 o1
+        → Walked z (nodeWalk file z d a n (countsOf t) o) v t1 o1
+    node-leaf v t1 o1 e walked = rw e walked
+
+    module _ (v : Verdict) (above : d ≡ 0 → ⊥) (tested : verdictOf v ≡ internalTest s (d - 1) a n) where
+      internal-is : nodeWalk file z d a n (countsOf t) o
+          ≡ ifPassed (verdictOf v) (countsOf t) o (childrenWalk file z (d - 1) a n n 0 (oneInternal (countsOf t)) o)
+      unfolding nodeWalk childrenWalk nodeRun collectTests
+      internal-is =
+          let f : d ≡ suc (d - 1) = omega arith in ap (λ k. nodeWalk file z k a n (countsOf t) o) f ∙ rw (← tested)
+
+      pub node-stops : (q : Refusal) → v ≡ Refused q → Within z t o → Walked z (nodeWalk file z d a n (countsOf t) o) v t o
+      node-stops q e within =
+          record { ends = sym (ap heldRun (internal-is ∙ test-stops _ v t o _ q refl e)); within = within }
+
+      module _ (e : v ≡ Accepted) where
+        pub node-passed : internalTest s (d - 1) a n ≡ accepted []
+        node-passed = sym tested ∙ ap verdictOf e
+
+        pub node-reads : (t1 : List ℕ) (v1 : Verdict) (t2 o1 : List ℕ) → heldCounts (countsOf t1) ≡ heldCounts (oneInternal (countsOf t))
+            → Walked z (childrenWalk file z (d - 1) a n (n + 1 - 1) 0 (countsOf t1) o) v1 t2 o1
+            → Walked z (nodeWalk file z d a n (countsOf t) o) v1 t2 o1
+        unfolding childrenWalk
+        node-reads t1 v1 t2 o1 counts walked =
+            let f : n + 1 - 1 ≡ n = omega arith in
+            walked-as
+            (from-held (childrenWalk file z (d - 1) a n n 0) (children-alike s tests (d - 1) a n _ (node-alike s tests (d - 1)) n 0) (oneInternal (countsOf t)) (countsOf t1) o counts
+            ∙ ap heldRun (sym (internal-is ∙ test-passes _ v (countsOf t) o _ refl e)))
+            (rw f at walked)
+
+  -- Children of an internal node, `left` of them from child i on.
+  module _ (d a n i left : ℕ) (t o : List ℕ) where
+    abbrev Reads : Verdict → List ℕ → List ℕ → Type 0
+    Reads = Walked z (childrenWalk file z d a n (left - 1) i (countsOf t) o)
+
+    -- One.
+    pub one-reads : (b : Node)
+        → (b .address ≡ childAddress s (pointerPlace s d a n i)) × (b .records ≡ childRecords s (pointerPlace s d a n i))
+        → (v : Verdict) (t1 o1 : List ℕ) → left ≡ 1 → Walked z (nodeWalk file z d (b .address) (b .records) (countsOf t) o) v t1 o1 → Reads v t1 o1
+    unfolding nodeWalk childrenWalk childrenRun childRun collectTests
+    one-reads b pointer v t1 o1 e walked =
+        let same : nodeWalk file z d (b .address) (b .records) (countsOf t) o ≡ childrenWalk file z d a n 0 i (countsOf t) o =
+        rw (pointer .0, pointer .1) (sym (then-fine _))
+        in
+        rw e (walked-as (ap heldRun same) walked)
+
+    -- More: the first half, the record between and the second half.
+    module _ (some : 0 < left) (more : left ≡ 1 → ⊥) (v : Verdict) (t1 o1 : List ℕ)
+        (first : Walked z (childrenWalk file z d a n (left / 2 - 1) i (countsOf t) o) v t1 o1) where
+      abbrev record-between : Counts → List ℕ → Run
+      record-between = innerWalk file z d a n (i + left / 2 - 1)
+
+      abbrev second-half : Counts → List ℕ → Run
+      second-half = childrenWalk file z d a n (left - left / 2 - 1) (i + left / 2)
+
+      halves : andThen (andThen (childrenWalk file z d a n (left / 2 - 1) i (countsOf t) o) record-between) second-half
+          ≡ childrenWalk file z d a n (left - 1) i (countsOf t) o
+      unfolding childrenWalk innerWalk
+      halves =
+          let e : left - 1 ≡ left / 2 - 1 + suc (left - left / 2 - 1) = omega arith in
+          let f : i + left / 2 - 1 ≡ i + (left / 2 - 1) = omega arith in
+          let g : i + left / 2 ≡ i + (left / 2 - 1) + 1 = omega arith in
+          rw (e, f, g) (sym (children-split s tests d a n (nodeRun s tests d) (left / 2 - 1) (left - left / 2 - 1) i (countsOf t) o))
+
+      record-alike : Alike record-between
+      unfolding innerWalk
+      record-alike = inner-alike s tests d a n _ (node-alike s tests d) (i + left / 2 - 1)
+
+      half-alike : Alike second-half
+      unfolding childrenWalk
+      half-alike = children-alike s tests d a n _ (node-alike s tests d) (left - left / 2 - 1) (i + left / 2)
+
+      pub first-stops : (q : Refusal) → v ≡ Refused q → Reads v t1 o1
+      first-stops q e =
+          walked-as (ap heldRun halves) (hand-up second-half half-alike (hand-up record-between record-alike first q e) q e)
+
+      module _ (e : v ≡ Accepted) (w : Verdict) (t2 o2 : List ℕ) (put : Walked z (record-between (countsOf t1) o1) w t2 o2) where
+        two : Walked z (andThen (childrenWalk file z d a n (left / 2 - 1) i (countsOf t) o) record-between) w t2 o2
+        two = walked-as (sym (go-on record-between record-alike first e)) put
+
+        pub record-stops : (q : Refusal) → w ≡ Refused q → Reads w t2 o2
+        record-stops q h = walked-as (ap heldRun halves) (hand-up second-half half-alike two q h)
+
+        pub second-reads : w ≡ Accepted → (u : Verdict) (t3 o3 : List ℕ) → Walked z (second-half (countsOf t2) o2) u t3 o3 → Reads u t3 o3
+        second-reads h u t3 o3 = walked-as (sym (go-on second-half half-alike two h) ∙ ap heldRun halves)
+
+  -- Record i of an internal node: one record put out, and counted.
+  module _ (d : ℕ) (x : Node) (i : ℕ) (t o : List ℕ) (v : Verdict) (t1 o1 : List ℕ)
+      (put : Walked z (putRecords s 1 (x .address + 6 + i * z .«record_size») (countsOf t) o) v t1 o1) where
+    inner-is : andThen (putRecords s 1 (x .address + 6 + i * z .«record_size») (countsOf t) o) (λ c o. fine (oneInner c) o)
+        ≡ innerWalk file z d (x .address) (x .records) i (countsOf t) o
+    unfolding innerWalk innerRun putRecords sourceAt
+    inner-is =
+        ap (λ y. andThen y (λ c o. fine (oneInner c) o))
+        (then-same (putRecord s (x .address + 6 + i * z .«record_size») (countsOf t) o) _ (λ c o. refl))
+
+    pub inner-stops : (q : Refusal) → v ≡ Refused q → Walked z (innerWalk file z d (x .address) (x .records) i (countsOf t) o) v t1 o1
+    inner-stops q e = walked-as (ap heldRun inner-is) (hand-up (λ c o. fine (oneInner c) o) count-alike put q e)
+
+    pub inner-puts : (t2 : List ℕ) → v ≡ Accepted → heldCounts (countsOf t2) ≡ heldCounts (oneInner (countsOf t1))
+        → Walked z (innerWalk file z d (x .address) (x .records) i (countsOf t) o) Accepted t2 o1
+    inner-puts t2 e counts =
+        record {
+          ends = ap (λ c. fine c o1) counts ∙ sym (sym (ap heldRun inner-is) ∙ go-on (λ c o. fine (oneInner c) o) count-alike put e);
+          within = rw (records-held (oneInner (countsOf t1)) (countsOf t2) counts) (put .within);
+        }
+
+-- A level below.
+pub readable-under : (z : TreeSizes) (l : List ℕ) (d : ℕ) → Readable z l d → Readable z l (d - 1)
+readable-under z l d h =
+    record { some = h .some; deep = omega (arith, h .deep); counts = h .counts; totals = λ u k. h .totals u (omega arith) }

@@ -1,0 +1,31 @@
+-- `put_records` puts out as many records as fit.
+use Rattle.btree_v2_collect.proofs.Putting.{part-there, rows-few, put-all, put-part}
+use borrow.Author.Needs.{needs}
+use Rattle.btree_v2_collect.proofs.collect.put_records.Statement.{statement}
+use Rattle.btree_v2_collect.proofs.collect.put_records.Tie as tie
+
+pub put-records-spec : {M : Type 1} → statement M
+put-records-spec =
+    tie.close
+    (tie.spec
+    (λ c. search needs)
+    (λ c. search needs)
+    (λ c. search needs)
+    (λ c. search needs)
+    (λ c κs. search needs)
+    (λ c. search needs)
+    (λ c. search needs)
+    (λ c. search needs)
+    (λ c. search needs)
+    (λ c. search needs)
+    (λ c. search part-there)
+    (λ c κs. search needs)
+    (λ c. search needs)
+    (λ c. search rows-few)
+    (λ c. search needs)
+    (λ c. search needs)
+    (λ c. search needs)
+    (λ c. search needs)
+    (λ c. let entry = c .before .before .before .before .before .before .before .before .before .before .before .before .before .before .before in put-part _ _ _ _ (entry .args .tally .now) _ (entry .pre .0) (entry .pre .1) (entry .pre .2) _ (c .before .before .before .before .before .before .before .before .before .before .before .fitting .ensures) _ (c .before .before .before .before .before .before .before .before .put-bytes .ensures) (c .if1 .taken))
+    (λ c. search needs)
+    (λ c. search put-all))

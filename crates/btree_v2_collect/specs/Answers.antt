@@ -1,0 +1,11 @@
+-- What collecting's answer says, in the terms of the format's definitions.
+use Prim.Native.Nat.{ℕ}
+use mathlib.Core.List.{List, [], _∷_, _++_}
+use Rattle.refusal.specs.Answer.{cells, verdictOf}
+use Rattle.btree_v2_collect.specs.declared.Collected.{Collected}
+
+-- Collecting's answer as numbers: number and two values, and the four counts.
+abbrev pub collectedCells : Collected → List ℕ
+collectedCells r =
+    cells 3 (verdictOf (r .verdict))
+    ++ (r .tally .records ∷ r .tally .leaves ∷ r .tally .internals ∷ r .tally .inner ∷ [])

@@ -1,0 +1,90 @@
+-- The collector's own steps in the terms of the walk: what a tally and an answer say, counts held at 2^64 - 1, and what a step is given
+-- and leaves.
+use Prim.Native.Nat.{ℕ, _*_, _≤_, _<_}
+use mathlib.Core.Path.{_≡_}
+use mathlib.Core.List.{List}
+use lib.ListN.{length, getD}
+use Rattle.numbers.specs.Numbers.{held}
+use Rattle.node_info.specs.Capacity.{countWidth, totalWidth}
+use Rattle.btree_v2_collect.specs.Walk.{Counts, Run, fine, stopped, ifPassed, Tests, innerRun, childrenRun, nodeRun}
+use Rattle.btree_v2_internal.specs.Internal.{Source}
+use Rattle.btree_v2_collect.specs.Collect.{collectTests}
+use Rattle.refusal.specs.Answer.{verdictOf}
+use Rattle.refusal.specs.declared.Verdict.{Verdict}
+use Rattle.btree_v2_collect.specs.declared.Tally.{Tally}
+use Rattle.btree_v2_collect.specs.declared.collect.TreeSizes.{TreeSizes}
+use Rattle.btree_v2_internal.specs.declared.Sizes.{Sizes}
+
+-- The counts of a tally of four numbers.
+abbrev pub countsOf : List ℕ → Counts
+countsOf t = record { records = getD t 0 0; leaves = getD t 1 0; internals = getD t 2 0; inner = getD t 3 0 }
+
+-- Such a tally as the answer has it.
+abbrev pub tallyOf : List ℕ → Tally
+tallyOf t = record { records = getD t 0 0; leaves = getD t 1 0; internals = getD t 2 0; inner = getD t 3 0 }
+
+-- How far a walk has come by an answer, a tally and an output.
+abbrev pub runOf : Verdict → List ℕ → List ℕ → Run
+runOf v t o = ifPassed (verdictOf v) (countsOf t) o (fine (countsOf t) o)
+
+-- Counts with those of nodes and of records from internal nodes held. The records put out are in the output and need it not.
+abbrev pub heldCounts : Counts → Counts
+heldCounts c =
+    record { records = c .records; leaves = held (c .leaves); internals = held (c .internals); inner = held (c .inner) }
+
+abbrev pub heldRun : Run → Run
+heldRun (fine c o) = fine (heldCounts c) o
+heldRun (stopped number values c o) = stopped number values (heldCounts c) o
+
+-- The file as a walk by these sizes goes over it, and collecting's tests there.
+unfoldable pub sourceAt : List ℕ → TreeSizes → Source
+sourceAt file z =
+    record {
+      file = file;
+      rs = z .«record_size»;
+      ow = z .«offset_size»;
+      cw = countWidth (z .«node_size») (z .«record_size»);
+      tw = totalWidth (z .«node_size») (z .«record_size») (z .«offset_size»);
+    }
+
+abbrev pub testsAt : List ℕ → TreeSizes → Tests
+testsAt file z = collectTests (sourceAt file z)
+
+-- The sizes of an internal node whose children have level d.
+unfoldable pub sizesAbove : TreeSizes → ℕ → Sizes
+sizesAbove z d =
+    record {
+      «record_size» = z .«record_size»;
+      «offset_size» = z .«offset_size»;
+      «count_size» = countWidth (z .«node_size») (z .«record_size»);
+      «total_size» = totalWidth (z .«node_size») (z .«record_size») (z .«offset_size») d;
+    }
+
+-- Records have bytes, and the sizes of counts and, in l, of totals up to level d are those of the tree.
+pub record Readable (z : TreeSizes) (l : List ℕ) (d : ℕ) : Type 0 where
+  pub some : 0 < z .«record_size»
+  pub deep : d ≤ 32
+  pub counts : z .«count_size» ≡ countWidth (z .«node_size») (z .«record_size»)
+  pub totals : (u : ℕ) → u ≤ d → getD l u 0 ≡ totalWidth (z .«node_size») (z .«record_size») (z .«offset_size») u
+
+-- The records put out are within the output.
+abbrev pub Within : TreeSizes → List ℕ → List ℕ → Type 0
+Within z t o = getD t 0 0 * z .«record_size» ≤ length o
+
+-- The walk x ends as the answer v, the tally t and the output o say, all counts held; and the records put out are within the output.
+pub record Walked (z : TreeSizes) (x : Run) (v : Verdict) (t o : List ℕ) : Type 0 where
+  pub ends : heldRun (runOf v t o) ≡ heldRun x
+  pub within : Within z t o
+
+module _ (file : List ℕ) (z : TreeSizes) where
+  -- The walk over the node of level d at address a with n records.
+  unfoldable pub nodeWalk : ℕ → ℕ → ℕ → Counts → List ℕ → Run
+  nodeWalk = nodeRun (sourceAt file z) (testsAt file z)
+
+  -- The walk over record i, and over m + 1 children from child i on with the records between them, of such a node whose children have level d.
+  module _ (d a n : ℕ) where
+    unfoldable pub innerWalk : ℕ → Counts → List ℕ → Run
+    innerWalk = innerRun (sourceAt file z) (testsAt file z) d a n (nodeRun (sourceAt file z) (testsAt file z) d)
+
+    unfoldable pub childrenWalk : ℕ → ℕ → Counts → List ℕ → Run
+    childrenWalk = childrenRun (sourceAt file z) (testsAt file z) d a n (nodeRun (sourceAt file z) (testsAt file z) d)

@@ -1,0 +1,5 @@
+-- The definitions that the contracts of the crate cite.
+pub mod Answers
+pub mod Collecting
+pub mod Walk
+pub mod Collect

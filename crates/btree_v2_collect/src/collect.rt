@@ -1,0 +1,385 @@
+// Collecting: the records of a tree, put out end to end into a lent output.
+
+ghost use mathlib.Core.Path.{_≡_};
+ghost use mathlib.Core.List.{[]};
+ghost use Prim.Native.Nat.{ℕ, _+_, _-_, _*_, _^_, _≤_, _<_};
+ghost use lib.ListN.{length};
+ghost use Rattle.refusal.specs.Answer.{accepted, verdictOf};
+ghost use Rattle.btree_v2_collect.specs.Walk.{oneLeaf, oneInternal, oneInner, putRecords};
+ghost use Rattle.btree_v2_internal.specs.Internal.{pointerPlace, childAddress, childRecords, internalTest};
+ghost use Rattle.btree_v2_collect.specs.Collect.{collected, runCells, runOutput};
+ghost use Rattle.btree_v2_header.specs.Answers.{fieldsOf};
+ghost use Rattle.btree_v2_collect.specs.Answers.{collectedCells};
+ghost use Rattle.btree_v2_collect.specs.Collecting.{countsOf, tallyOf, heldCounts, sourceAt, Readable, Within, Walked, sizesAbove, nodeWalk, innerWalk, childrenWalk};
+use crate::Collected;
+use crate::Tally;
+use btree_v2_header::BTreeV2Header;
+use btree_v2_internal::Node;
+use btree_v2_internal::Sizes;
+use node_info::NodeInfo;
+use refusal::Refusal;
+use refusal::Verdict;
+
+// Sizes in bytes of a tree; those of subtrees' totals stand in a table beside them, by the level of the subtree's root.
+struct TreeSizes {
+    node_size: u32,
+    record_size: u16,
+    offset_size: u8,
+    // of a child's record count
+    count_size: u8,
+}
+
+// A tally: records put out, leaves read, internal nodes read, and records from internal nodes. One leaf more, one internal node, or one record
+// from an internal node.
+fn one_leaf(tally: &mut [u64; 4])
+    ensures { λ _. ⌜ heldCounts (countsOf (now (tally .exit))) ≡ heldCounts (oneLeaf (countsOf (now (tally .entry)))) ⌝ }
+{
+    let leaves = numbers::saturating_add(tally[1], 1);
+    *tally = [tally[0], leaves, tally[2], tally[3]];
+}
+
+fn one_internal(tally: &mut [u64; 4])
+    ensures { λ _. ⌜ heldCounts (countsOf (now (tally .exit))) ≡ heldCounts (oneInternal (countsOf (now (tally .entry)))) ⌝ }
+{
+    let internals = numbers::saturating_add(tally[2], 1);
+    *tally = [tally[0], tally[1], internals, tally[3]];
+}
+
+fn one_inner(tally: &mut [u64; 4])
+    ensures { λ _. ⌜ heldCounts (countsOf (now (tally .exit))) ≡ heldCounts (oneInner (countsOf (now (tally .entry)))) ⌝ }
+{
+    let inner = numbers::saturating_add(tally[3], 1);
+    *tally = [tally[0], tally[1], tally[2], inner];
+}
+
+// How many of n records of this size fit into `room` bytes.
+fn fitting(n: u16, size: u16, room: usize) -> usize
+    requires { ⌜ 0 < size ⌝ }
+    ensures { λ r. ⌜ (r ≤ n) × (r * size ≤ room) × (r < n → room < (r + 1) * size) ⌝ }
+{
+    let all = n as usize;
+    let wide = size as usize;
+    if all * wide <= room {
+        return all;
+    }
+    room / wide
+}
+
+// Puts n records from place `from` of the file on out, after those that are there: as many as fit, and 15 where one does not.
+fn put_records(
+    file: &[u8],
+    sizes: TreeSizes,
+    from: usize,
+    n: u16,
+    tally: &mut [u64; 4],
+    output: &mut [u8],
+) -> Verdict
+    requires { ⌜ (0 < sizes .«record_size») × (from + n * sizes .«record_size» ≤ length (now file)) × (Within sizes (now tally) (now output)) ⌝ }
+    ensures { λ r. ⌜ Walked sizes (putRecords (sourceAt (now (file .entry)) sizes) n from (countsOf (now (tally .entry))) (now (output .entry))) r (now (tally .exit)) (now (output .exit)) ⌝ }
+{
+    let size = sizes.record_size;
+    let at = tally[0] as usize * (size as usize);
+    let fit = fitting(n, size, output.len() - at);
+    numbers::put_bytes(output, at, &file[from..from + fit * (size as usize)]);
+    let records = tally[0] + (fit as u64);
+    *tally = [records, tally[1], tally[2], tally[3]];
+    if fit < n as usize {
+        return Verdict::Refused(Refusal::OutputTooShort(output.len() as u64));
+    }
+    Verdict::Accepted
+}
+
+// Reads a leaf, whose records are put out at once.
+fn collect_leaf(
+    file: &[u8],
+    sizes: TreeSizes,
+    node: Node,
+    tally: &mut [u64; 4],
+    output: &mut [u8],
+) -> Verdict
+    requires { ⌜ (0 < sizes .«record_size») × (Within sizes (now tally) (now output)) ⌝ }
+    ensures { λ r. ⌜ Walked sizes (nodeWalk (now (file .entry)) sizes 0 (node .address) (node .records) (countsOf (now (tally .entry))) (now (output .entry))) r (now (tally .exit)) (now (output .exit)) ⌝ }
+{
+    let verdict = btree_v2_leaf::check_leaf(file, node.address, node.records, sizes.record_size);
+    let Verdict::Accepted = verdict else {
+        return verdict;
+    };
+    let from = node.address as usize + 6;
+    one_leaf(tally);
+    put_records(file, sizes, from, node.records, tally, output)
+}
+
+// The sizes of an internal node whose children have level `under`.
+fn sizes_above(sizes: TreeSizes, total_sizes: &[u8; 33], under: usize) -> Sizes
+    requires { ⌜ Readable sizes (now «total_sizes») under ⌝ }
+    ensures { λ r. ⌜ r ≡ sizesAbove sizes under ⌝ }
+{
+    Sizes {
+        record_size: sizes.record_size,
+        offset_size: sizes.offset_size,
+        count_size: sizes.count_size,
+        total_size: total_sizes[under],
+    }
+}
+
+// The tests of an internal node whose children have level `under`.
+fn check_node(
+    file: &[u8],
+    sizes: TreeSizes,
+    total_sizes: &[u8; 33],
+    under: usize,
+    node: Node,
+) -> Verdict
+    requires { ⌜ Readable sizes (now «total_sizes») under ⌝ }
+    ensures { λ r. ⌜ verdictOf r ≡ internalTest (sourceAt (now (file .entry)) sizes) under (node .address) (node .records) ⌝ }
+{
+    btree_v2_internal::check_internal(file, sizes_above(sizes, total_sizes, under), node)
+}
+
+// Child i of an internal node that passed its tests.
+fn child_of(
+    file: &[u8],
+    sizes: TreeSizes,
+    total_sizes: &[u8; 33],
+    under: usize,
+    node: Node,
+    i: usize,
+) -> Node
+    requires { ⌜ Readable sizes (now «total_sizes») under ⌝ }
+    requires { ⌜ internalTest (sourceAt (now file) sizes) under (node .address) (node .records) ≡ accepted [] ⌝ }
+    requires { ⌜ i ≤ node .records ⌝ }
+    ensures { λ r. ⌜ (r .address ≡ childAddress (sourceAt (now (file .entry)) sizes) (pointerPlace (sourceAt (now (file .entry)) sizes) under (node .address) (node .records) i)) × (r .records ≡ childRecords (sourceAt (now (file .entry)) sizes) (pointerPlace (sourceAt (now (file .entry)) sizes) under (node .address) (node .records) i)) ⌝ }
+{
+    let above = sizes_above(sizes, total_sizes, under);
+    btree_v2_internal::read_pointer(file, above, node, i as u16)
+}
+
+// Puts record i of an internal node out.
+fn put_inner(
+    file: &[u8],
+    sizes: TreeSizes,
+    under: usize,
+    node: Node,
+    i: usize,
+    tally: &mut [u64; 4],
+    output: &mut [u8],
+) -> Verdict
+    requires { ⌜ internalTest (sourceAt (now file) sizes) under (node .address) (node .records) ≡ accepted [] ⌝ }
+    requires { ⌜ (i < node .records) × (0 < sizes .«record_size») × (Within sizes (now tally) (now output)) ⌝ }
+    ensures { λ r. ⌜ Walked sizes (innerWalk (now (file .entry)) sizes under (node .address) (node .records) i (countsOf (now (tally .entry))) (now (output .entry))) r (now (tally .exit)) (now (output .exit)) ⌝ }
+{
+    let from = node.address as usize + 6 + i * (sizes.record_size as usize);
+    let verdict = put_records(file, sizes, from, 1, tally, output);
+    let Verdict::Accepted = verdict else {
+        return verdict;
+    };
+    one_inner(tally);
+    Verdict::Accepted
+}
+
+// Reads the node of level `depth`: a leaf, or an internal node with its children and its records between them. Here and below an answer is taken
+// apart and not returned as it came: of an accepted one, one byte is then handed up.
+fn collect_node(
+    file: &[u8],
+    sizes: TreeSizes,
+    total_sizes: &[u8; 33],
+    depth: usize,
+    address: u64,
+    records: u16,
+    tally: &mut [u64; 4],
+    output: &mut [u8],
+) -> Verdict
+    requires { ⌜ Readable sizes (now «total_sizes») depth ⌝ }
+    requires { ⌜ Within sizes (now tally) (now output) ⌝ }
+    ensures { λ r. ⌜ Walked sizes (nodeWalk (now (file .entry)) sizes depth address records (countsOf (now (tally .entry))) (now (output .entry))) r (now (tally .exit)) (now (output .exit)) ⌝ }
+{
+    let node = Node { address, records };
+    if depth == 0 {
+        let read = collect_leaf(file, sizes, node, tally, output);
+        let Verdict::Accepted = read else {
+            return read;
+        };
+        return Verdict::Accepted;
+    }
+    let under = depth - 1;
+    let tested = check_node(file, sizes, total_sizes, under, node);
+    let Verdict::Accepted = tested else {
+        return tested;
+    };
+    one_internal(tally);
+    let left = records as usize + 1;
+    let read = collect_children(
+        file,
+        sizes,
+        total_sizes,
+        under,
+        address,
+        records,
+        0,
+        left,
+        tally,
+        output,
+    );
+    let Verdict::Accepted = read else {
+        return read;
+    };
+    Verdict::Accepted
+}
+
+// Reads `left` children of an internal node, from child i on: one child, or the first half of them, the record between, and the second half.
+// One place has all the answers, so that a halving takes little of the stack.
+fn collect_children(
+    file: &[u8],
+    sizes: TreeSizes,
+    total_sizes: &[u8; 33],
+    under: usize,
+    address: u64,
+    records: u16,
+    i: usize,
+    left: usize,
+    tally: &mut [u64; 4],
+    output: &mut [u8],
+) -> Verdict
+    requires { ⌜ Readable sizes (now «total_sizes») under ⌝ }
+    requires { ⌜ internalTest (sourceAt (now file) sizes) under address records ≡ accepted [] ⌝ }
+    requires { ⌜ (i + left ≤ records + 1) × (0 < left) × (Within sizes (now tally) (now output)) ⌝ }
+    ensures { λ r. ⌜ Walked sizes (childrenWalk (now (file .entry)) sizes under address records (left - 1) i (countsOf (now (tally .entry))) (now (output .entry))) r (now (tally .exit)) (now (output .exit)) ⌝ }
+{
+    let node = Node { address, records };
+    let mut read = Verdict::Accepted;
+    if left == 1 {
+        let child = child_of(file, sizes, total_sizes, under, node, i);
+        read = collect_node(
+            file,
+            sizes,
+            total_sizes,
+            under,
+            child.address,
+            child.records,
+            tally,
+            output,
+        );
+        let Verdict::Accepted = read else {
+            return read;
+        };
+        return Verdict::Accepted;
+    }
+    let half = left / 2;
+    read = collect_children(
+        file,
+        sizes,
+        total_sizes,
+        under,
+        address,
+        records,
+        i,
+        half,
+        tally,
+        output,
+    );
+    let Verdict::Accepted = read else {
+        return read;
+    };
+    let between = i + half - 1;
+    read = put_inner(file, sizes, under, node, between, tally, output);
+    let Verdict::Accepted = read else {
+        return read;
+    };
+    read = collect_children(
+        file,
+        sizes,
+        total_sizes,
+        under,
+        address,
+        records,
+        i + half,
+        left - half,
+        tally,
+        output,
+    );
+    let Verdict::Accepted = read else {
+        return read;
+    };
+    Verdict::Accepted
+}
+
+// A tally as the answer has it.
+fn tally_of(tally: &[u64; 4]) -> Tally
+    ensures { λ r. ⌜ r ≡ tallyOf (now (tally .entry)) ⌝ }
+{
+    Tally {
+        records: tally[0],
+        leaves: tally[1],
+        internals: tally[2],
+        inner: tally[3],
+    }
+}
+
+// Collects the records of the tree that a header describes into the front of the output.
+pub fn collect_btree_v2_records(
+    file: &[u8],
+    header: BTreeV2Header,
+    offset_size: u8,
+    output: &mut [u8],
+) -> Collected
+    ensures { λ r. ⌜ (collectedCells r ≡ runCells (collected (now (file .entry)) (fieldsOf header) «offset_size» (now (output .entry)))) × (now (output .exit) ≡ runOutput (collected (now (file .entry)) (fieldsOf header) «offset_size» (now (output .entry)))) ⌝ }
+{
+    let tally = Tally {
+        records: 0,
+        leaves: 0,
+        internals: 0,
+        inner: 0,
+    };
+    if header.total_records == 0 {
+        return Collected {
+            verdict: Verdict::Accepted,
+            tally,
+        };
+    }
+    if header.num_records_in_root == 0 {
+        return Collected {
+            verdict: Verdict::Accepted,
+            tally,
+        };
+    }
+    if header.record_size == 0 {
+        return Collected {
+            verdict: Verdict::Refused(Refusal::ZeroRecordSize),
+            tally,
+        };
+    }
+    if NodeInfo::LEVEL_LIMIT < header.depth {
+        return Collected {
+            verdict: Verdict::Refused(Refusal::DepthAboveLimit(header.depth)),
+            tally,
+        };
+    }
+    let answer = NodeInfo::compute(
+        header.node_size,
+        header.record_size,
+        offset_size,
+        header.depth,
+    );
+    let info = answer.info;
+    let sizes = TreeSizes {
+        node_size: header.node_size,
+        record_size: header.record_size,
+        offset_size,
+        count_size: info.max_nrec_size,
+    };
+    let mut counted: [u64; 4] = [0; 4];
+    let verdict = collect_node(
+        file,
+        sizes,
+        &info.cum_max_nrec_size,
+        header.depth as usize,
+        header.root_node_address,
+        header.num_records_in_root,
+        &mut counted,
+        output,
+    );
+    Collected {
+        verdict,
+        tally: tally_of(&counted),
+    }
+}

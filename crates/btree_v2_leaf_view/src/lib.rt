@@ -1,0 +1,107 @@
+// A borrowed look at a leaf's records. A function that takes, makes or holds a view is a walk proved by hand; a caller
+// that loops over a leaf's records goes by `check_view`, `records_of` and `record_of` instead.
+
+ghost use mathlib.Core.Path.{_≡_};
+ghost use Rattle.btree_v2_leaf_view.specs.Look.{lookTest, bytesIf, lookBytes, recordOf};
+ghost use Rattle.refusal.specs.Answer.{verdictOf};
+use refusal::Refusal;
+use refusal::Verdict;
+
+// Document 01's borrowed look at one leaf's bytes.
+pub struct LeafView<'a> {
+    // the records, end to end
+    pub records: &'a [u8],
+    pub record_size: u16,
+    pub count: u16,
+}
+
+// A view whose leaf was refused has no bytes.
+pub struct LeafAnswer<'a> {
+    pub verdict: Verdict,
+    pub view: LeafView<'a>,
+}
+
+// The tests of a look: a record has bytes, and the leaf's own.
+pub fn check_view(file: &[u8], address: u64, count: u16, record_size: u16) -> Verdict
+    ensures { λ r. ⌜ verdictOf r ≡ lookTest (now (file .entry)) «record_size» address count ⌝ }
+{
+    if record_size == 0 {
+        return Verdict::Refused(Refusal::ZeroRecordSize);
+    }
+    btree_v2_leaf::check_leaf(file, address, count, record_size)
+}
+
+// The records of a leaf with this verdict: none where it is refused.
+pub fn records_of<'a>(
+    verdict: Verdict,
+    file: &'a [u8],
+    address: u64,
+    count: u16,
+    record_size: u16,
+) -> &'a [u8]
+    ensures { λ r. ⌜ now r ≡ bytesIf (verdictOf verdict) (now (file .entry)) «record_size» address count ⌝ }
+{
+    let Verdict::Accepted = verdict else {
+        return &file[0..0];
+    };
+    let bytes = (count as u64) * (record_size as u64);
+    numbers::part(file, numbers::saturating_add(address, 6), bytes)
+}
+
+// Record i of `count` records that stand end to end; empty where i is not below the count.
+pub fn record_of<'a>(records: &'a [u8], record_size: u16, count: u16, i: u64) -> &'a [u8]
+    ensures { λ r. ⌜ now r ≡ recordOf (now (records .entry)) «record_size» count i ⌝ }
+{
+    if count as u64 <= i {
+        return &records[0..0];
+    }
+    numbers::part(records, i * (record_size as u64), record_size as u64)
+}
+
+impl<'a> LeafAnswer<'a> {
+    // A look at the leaf at `address` with `count` records.
+    pub fn look(file: &'a [u8], address: u64, count: u16, record_size: u16) -> LeafAnswer<'a>
+        ensures { λ r. ⌜ (verdictOf (r .verdict) ≡ lookTest (now (file .entry)) «record_size» address count) × (now (r .view .records) ≡ lookBytes (now (file .entry)) «record_size» address count) × (r .view .«record_size» ≡ «record_size») × (r .view .count ≡ count) ⌝ }
+    {
+        let verdict = check_view(file, address, count, record_size);
+        let records = records_of(verdict, file, address, count, record_size);
+        LeafAnswer {
+            verdict,
+            view: LeafView {
+                records,
+                record_size,
+                count,
+            },
+        }
+    }
+}
+
+impl<'a> LeafView<'a> {
+    pub fn count(self) -> u16
+        ensures { λ r. ⌜ r ≡ self .entry .count ⌝ }
+    {
+        self.count
+    }
+
+    // Record i, or an empty part where i is not below the count.
+    pub fn record(self, i: u64) -> &'a [u8]
+        ensures { λ r. ⌜ now r ≡ recordOf (now (self .entry .records)) (self .entry .«record_size») (self .entry .count) i ⌝ }
+    {
+        record_of(self.records, self.record_size, self.count, i)
+    }
+}
+
+// Record i of the leaf at `address`: empty where the leaf is refused, or i is not below the count.
+pub fn leaf_record<'a>(
+    file: &'a [u8],
+    address: u64,
+    count: u16,
+    record_size: u16,
+    i: u64,
+) -> &'a [u8]
+    ensures { λ r. ⌜ now r ≡ recordOf (lookBytes (now (file .entry)) «record_size» address count) «record_size» count i ⌝ }
+{
+    LeafAnswer::look(file, address, count, record_size)
+        .view
+        .record(i)
+}

@@ -1,0 +1,112 @@
+// What stands around the contents of the header and of every node: signature, version and type in front, checksum and zeros behind; and the
+// header itself.
+
+ghost use mathlib.Core.Path.{_≡_};
+ghost use mathlib.Core.List.{[], _∷_};
+ghost use Prim.Native.Nat.{_≤_};
+ghost use lib.ListN.{length, replicate};
+ghost use Rattle.numbers.specs.Places.{stored, put};
+ghost use Rattle.format.specs.Bytes.{headerBytes};
+ghost use Rattle.btree_v2_stamp.specs.Layouts.{formAt, fixedBytes};
+ghost use Rattle.btree_v2_stamp.specs.Seals.{sealed};
+
+// When a node is split and merged, in percent of its capacity; written into the header alone.
+const SPLIT_PERCENT: u64 = 100;
+
+const MERGE_PERCENT: u64 = 40;
+
+// What all nodes of a tree share: sizes in bytes, and the address of the first node.
+pub struct Layout {
+    pub tree_type: u8,
+    pub node_size: usize,
+    pub record_size: usize,
+    pub offset_size: usize,
+    pub count_size: usize,
+    pub start: u64,
+}
+
+// Zeros over a whole slice.
+fn clear(to: &mut [u8])
+    ensures { λ _. ⌜ now (to .exit) ≡ replicate (length (now (to .entry))) 0 ⌝ }
+{
+    let n = to.len();
+    let mut i = 0;
+    while i < n {
+        to[i] = 0;
+        i += 1;
+    }
+}
+
+// Puts the signature, whose last two letters are given, the version and the tree type, where six bytes are there; else changes nothing.
+pub fn put_front(node: &mut [u8], third: u8, fourth: u8, tree_type: u8)
+    ensures { λ _. ⌜ now (node .exit) ≡ put (now (node .entry)) 0 (66 ∷ 84 ∷ third ∷ fourth ∷ 0 ∷ «tree_type» ∷ []) ⌝ }
+{
+    if node.len() < 6 {
+        return;
+    }
+    node[0] = 66;
+    node[1] = 84;
+    node[2] = third;
+    node[3] = fourth;
+    node[4] = 0;
+    node[5] = tree_type;
+}
+
+// Puts the checksum of the first `used` bytes after them, and zeros to the node size, where that much is there; else changes nothing.
+pub fn seal(node: &mut [u8], used: usize, node_size: usize)
+    ensures { λ _. ⌜ now (node .exit) ≡ sealed (now (node .entry)) used «node_size» ⌝ }
+{
+    if node.len() < node_size {
+        return;
+    }
+    if node_size < 4 {
+        return;
+    }
+    if node_size - 4 < used {
+        return;
+    }
+    let sum = checksum::jenkins_lookup3(&node[..used]);
+    numbers::write_le(node, used, sum as u64, 4);
+    clear(&mut node[used + 4..node_size]);
+}
+
+// Puts the header's first sixteen bytes, to the merge percent.
+fn put_fixed(header: &mut [u8], layout: Layout, depth: u64)
+    requires { ⌜ 16 ≤ length (now header) ⌝ }
+    ensures { λ _. ⌜ now (header .exit) ≡ stored (now (header .entry)) 0 (fixedBytes layout depth) ⌝ }
+{
+    put_front(header, 72, 68, layout.tree_type);
+    numbers::write_le(header, 6, layout.node_size as u64, 4);
+    numbers::write_le(header, 10, layout.record_size as u64, 2);
+    numbers::write_le(header, 12, depth, 2);
+    numbers::write_le(header, 14, SPLIT_PERCENT, 1);
+    numbers::write_le(header, 15, MERGE_PERCENT, 1);
+}
+
+// Puts the header's bytes where they fit; else changes nothing.
+pub fn write_header(
+    header: &mut [u8],
+    layout: Layout,
+    length_size: usize,
+    depth: u64,
+    address: u64,
+    records: u64,
+    total: u64,
+)
+    ensures { λ _. ⌜ now (header .exit) ≡ put (now (header .entry)) 0 (headerBytes (formAt layout) «length_size» depth address records total) ⌝ }
+{
+    let offset_size = layout.offset_size;
+    let size = numbers::saturating_add(22, offset_size as u64);
+    let size = numbers::saturating_add(size, length_size as u64);
+    if (header.len() as u64) < size {
+        return;
+    }
+    let records_at = 16 + offset_size;
+    let total_at = records_at + 2;
+    let used = total_at + length_size;
+    put_fixed(header, layout, depth);
+    numbers::write_le(header, 16, address, offset_size);
+    numbers::write_le(header, records_at, records, 2);
+    numbers::write_le(header, total_at, total, length_size);
+    seal(header, used, used + 4);
+}

@@ -1,2 +1,0 @@
--- The definitions that the contracts of the crate cite.
-pub mod Given

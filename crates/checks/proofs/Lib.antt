@@ -1,3 +1,0 @@
--- The laws of the shared tests: the crates above cite them too.
-pub mod Checks
-pub mod Nodes

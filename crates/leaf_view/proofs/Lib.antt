@@ -1,3 +1,0 @@
--- The laws that the crate's proofs cite.
-mod Records
-mod Views

@@ -1,0 +1,18 @@
+-- What a buffer holds after bytes were put at a place of it.
+use Prim.Native.Nat.{ℕ, _+_, _-_}
+use mathlib.Core.List.{List, _++_}
+use lib.ListN.{length, drop, take}
+use lib.Dec.{leb}
+use Rattle.numbers.specs.Numbers.{pick}
+
+-- o with b at place p and all else as it was.
+unfoldable pub stored : List ℕ → ℕ → List ℕ → List ℕ
+stored o p b = take p o ++ (b ++ drop (p + length b) o)
+
+-- The same where b fits, else o unchanged.
+unfoldable pub put : List ℕ → ℕ → List ℕ → List ℕ
+put o p b = pick (leb (p + length b) (length o)) (stored o p b) o
+
+-- b, and after it what was there.
+unfoldable pub over : List ℕ → List ℕ → List ℕ
+over b o = b ++ drop (length b) o

@@ -1,0 +1,30 @@
+-- Where the readers' tests pass, and what a test that is passed tells.
+use mathlib.Core.Path.{_≡_, refl}
+use mathlib.Core.Bool.{Bool, true, false}
+use mathlib.Core.List.{List, [], _∷_}
+use Prim.Native.Nat.{ℕ, _-_, _≤_}
+use lib.Dec.{leb}
+use lib.ListN.{length}
+use borrow.Author.Tests.{leb-true, le-leb, eq-eqb}
+use Rattle.numbers.specs.Numbers.{held}
+use Rattle.refusal.specs.Answer.{Answer, accepted, refused, orElse}
+use Rattle.read_checks.specs.Tests.{needs, same}
+
+-- What a test that is passed tells.
+pub passed : (t : Bool) (number : ℕ) (values figures : List ℕ) (rest : Answer) → orElse t (refused number values) rest ≡ accepted figures
+    → (t ≡ true) × (rest ≡ accepted figures)
+passed true number values figures rest e = (refl, e)
+passed false number values figures rest e = (cc, cc)
+
+pub there : (end length : ℕ) (figures : List ℕ) (rest : Answer) → needs end length rest ≡ accepted figures
+    → (end ≤ length) × (rest ≡ accepted figures)
+there end length figures rest e =
+    let h = passed (leb end length) 1 (held end ∷ length ∷ []) figures rest e in (leb-true end length (h .0), h .1)
+
+pub needs-fits : (e l : ℕ) (rest : Answer) → e ≤ l → needs e l rest ≡ rest
+needs-fits e l rest h = rw (le-leb e l h)
+
+pub same-refl : (xs : List ℕ) → same xs xs ≡ true
+unfolding same
+same-refl [] = refl
+same-refl (x ∷ xs) = rw (eq-eqb x x refl, same-refl xs)

@@ -1,0 +1,74 @@
+// Tests that the header reader, the leaf's look and the collector share; and the verdict of a test.
+
+ghost use mathlib.Core.Path.{_≡_};
+ghost use mathlib.Core.List.{[], _∷_};
+ghost use Prim.Native.Nat.{_+_, _-_};
+ghost use lib.ListN.{length};
+ghost use Rattle.numbers.specs.Numbers.{part};
+ghost use Rattle.refusal.specs.Answer.{accepted, verdictOf};
+ghost use Rattle.read_checks.specs.Tests.{needs, same, checksumTest};
+use refusal::Refusal;
+use refusal::Verdict;
+
+// Refusal 1 where fewer than `count` bytes are there from `at` on.
+pub fn ensure_len(data: &[u8], at: u64, count: u64) -> Verdict
+    ensures { λ r. ⌜ verdictOf r ≡ needs (at + count) (length (now («data» .entry))) (accepted []) ⌝ }
+{
+    let available = data.len() as u64;
+    let expected = numbers::saturating_add(at, count);
+    if available < expected {
+        return Verdict::Refused(Refusal::UnexpectedEof {
+            expected,
+            available,
+        });
+    }
+    Verdict::Accepted
+}
+
+// Whether four bytes are there at `at`, and are `BT` and these two letters.
+pub fn has_signature(data: &[u8], at: usize, third: u8, fourth: u8) -> bool
+    ensures { λ r. ⌜ r ≡ same (part (now («data» .entry)) at 4) (66 ∷ 84 ∷ third ∷ fourth ∷ []) ⌝ }
+{
+    if data.len() < at {
+        return false;
+    }
+    if data.len() - at < 4 {
+        return false;
+    }
+    if data[at] != b'B' {
+        return false;
+    }
+    if data[at + 1] != b'T' {
+        return false;
+    }
+    if data[at + 2] != third {
+        return false;
+    }
+    data[at + 3] == fourth
+}
+
+// Refusal 6 where the number in the four bytes at `end` is not the checksum of the bytes from `from` to there; each is of as many bytes
+// as there are.
+pub fn check_checksum(data: &[u8], from: usize, end: usize) -> Verdict
+    ensures { λ r. ⌜ verdictOf r ≡ checksumTest (now («data» .entry)) from end (accepted []) ⌝ }
+{
+    let stored = numbers::read_le(data, end, 4) as u32;
+    let computed = checksum::jenkins_lookup3(between(data, from, end));
+    if stored != computed {
+        return Verdict::Refused(Refusal::ChecksumMismatch {
+            expected: stored,
+            computed,
+        });
+    }
+    Verdict::Accepted
+}
+
+// The bytes from `from` to `end`, or as many as there are.
+fn between<'a>(data: &'a [u8], from: usize, end: usize) -> &'a [u8]
+    ensures { λ r. ⌜ now r ≡ part (now («data» .entry)) from (end - from) ⌝ }
+{
+    if end < from {
+        return &data[0..0];
+    }
+    numbers::part(data, from as u64, (end - from) as u64)
+}

@@ -1,0 +1,119 @@
+-- The return of the header: what the header reader answers where the header of a write stands in a file.
+use mathlib.Core.Path.{_≡_, _∙_}
+use mathlib.Core.Bool.{true}
+use mathlib.Core.Logic.{⊎-elim}
+use mathlib.Core.List.{List, [], _∷_, _++_}
+use Prim.Native.Nat.{ℕ, _+_, _-_, _^_, _≤_, _<_, zero-le}
+use native.Mathlib.Nat.{div-le-self, eq-zero-or-pos}
+use native.Mathlib.Omega.{arith}
+use lib.Dec.{lit<}
+use lib.ListN.{length}
+use borrow.Author.Tests.{le-leb}
+use Rattle.checksum.proofs.Promise.{lookup3, lookup3-lt}
+use Rattle.numbers.specs.Numbers.{le, unle, part, num, fieldSize}
+use Rattle.numbers.proofs.Numbers.{le-length}
+use Rattle.refusal.specs.Answer.{Answer, accepted}
+use Rattle.node_info.specs.Capacity.{leafCapacity, depthFrom, depthFor}
+use Rattle.node_info.proofs.Depth.{from-enough, depth-le}
+use Rattle.plan.specs.Tree.{count}
+use Rattle.plan.specs.Planned.{planTree, planDepth, planned}
+use Rattle.plan.proofs.Checks.{Plannable, accepted-plannable}
+use Rattle.format.specs.Bytes.{headerSignature, Form, summed, headerBytes}
+use Rattle.read_checks.specs.Tests.{checksumTest}
+use Rattle.btree_v2_header.specs.Header.{headerFigures, headerAt, parsed}
+use Rattle.format.specs.Request.{Request, formOf, depthOf, rootOf, rootRecordsOf, headerOf}
+use Rattle.round_trip.specs.Return.{headerWritten}
+use Rattle.numbers.proofs.Standing.{Stand, stand-left, stand-right, stand-end, stand-num}
+use Rattle.read_checks.proofs.Passing.{same-refl}
+use Rattle.round_trip.proofs.Summed.{checksum-passes}
+use Rattle.write_checks.proofs.Accepted.{Accepts, count-fits, root-fits}
+use Rattle.write_checks.proofs.Fitting.{root-held}
+use Rattle.format.proofs.HeaderLengths.{fromSize, unsummed, length-unsummed, length-header, length-headerOf}
+
+-- A byte or a field, and what stands after it.
+module _ (file : List ℕ) (p : ℕ) (ys : List ℕ) (r : ℕ) where
+  byte : (x : ℕ) → Stand file p (x ∷ ys) → p + 1 ≡ r → (num file p 1 ≡ x) × Stand file r ys
+  unfolding num unle
+  byte x h e = (rw (stand-left file p (x ∷ []) ys h) (omega arith), rw (← e) (stand-right file p (x ∷ []) ys h))
+
+  field : (w x : ℕ) → x < 256 ^ w → Stand file p (le w x ++ ys) → p + w ≡ r → (num file p w ≡ x) × Stand file r ys
+  field w x l h e =
+      (stand-num file p w x (stand-left file p (le w x) ys h) l, rw (← e) (rw le-length at (stand-right file p (le w x) ys h)))
+
+-- Where all tests pass the reader gives the fields.
+pub parsed-passed : (file : List ℕ) (o ow lw : ℕ) → o + (22 + ow + lw) ≤ length file → part file o 4 ≡ headerSignature
+    → num file (o + 4) 1 ≡ 0 → fieldSize ow ≡ true → fieldSize lw ≡ true
+    → checksumTest file o (o + 18 + ow + lw) (accepted (headerFigures (headerAt file o ow lw)))
+    ≡ accepted (headerFigures (headerAt file o ow lw))
+    → parsed file o ow lw ≡ accepted (headerFigures (headerAt file o ow lw))
+unfolding parsed
+parsed-passed file o ow lw l s v fo fl c =
+    rw (le-leb (o + 4) (length file) (omega arith), s, same-refl headerSignature, le-leb (o + 16) (length file) (omega arith), v, fo, le-leb (o + 16 + ow) (length file) (omega arith), le-leb (o + 18 + ow) (length file) (omega arith), fl, le-leb (o + 18 + ow + lw) (length file) (omega arith), le-leb (o + 22 + ow + lw) (length file) (omega arith)) c
+
+-- A header that stands in a file is read.
+module _ (sum-fits : (xs : List ℕ) → lookup3 xs < 256 ^ 4) (file : List ℕ) (o : ℕ) (g : Form) (lw depth root rootRecords n : ℕ)
+    (stands : Stand file o (headerBytes g lw depth root rootRecords n)) where
+  read-unsummed : Stand file o (unsummed g lw depth root rootRecords n)
+  unfolding headerBytes summed
+  read-unsummed = stand-left file o (unsummed g lw depth root rootRecords n) _ stands
+
+  read-checksum : (rest : Answer) → checksumTest file o (o + 18 + g .ow + lw) rest ≡ rest
+  unfolding headerBytes
+  read-checksum rest =
+      let e : o + length (unsummed g lw depth root rootRecords n) ≡ o + 18 + g .ow + lw =
+      omega (arith, length-unsummed g lw depth root rootRecords n) in
+      rw (← e) (checksum-passes sum-fits file (unsummed g lw depth root rootRecords n) o stands rest)
+
+  module _ (fo : fieldSize (g .ow) ≡ true) (fl : fieldSize lw ≡ true) (ns : g .ns < 256 ^ 4) (rs : g .rs < 256 ^ 2)
+      (d : depth < 256 ^ 2) (a : root < 256 ^ g .ow) (r : rootRecords < 256 ^ 2) (c : n < 256 ^ lw) where
+    pub header-read : parsed file o (g .ow) lw
+        ≡ accepted (g .treeType ∷ g .ns ∷ g .rs ∷ depth ∷ root ∷ rootRecords ∷ n ∷ [])
+    unfolding headerAt
+    header-read =
+        let all = length-header g lw depth root rootRecords n in
+        let end = rw all at (stand-end file o _ stands (rw all (omega arith))) in
+        let signed = stand-right file o headerSignature (0 ∷ g .treeType ∷ fromSize g lw depth root rootRecords n) read-unsummed in
+        let version = byte file (o + 4) _ (o + 5) 0 signed (omega arith) in
+        let treeType = byte file (o + 5) _ (o + 6) (g .treeType) (version .1) (omega arith) in
+        let size = field file (o + 6) _ (o + 10) 4 (g .ns) ns (treeType .1) (omega arith) in
+        let record-size = field file (o + 10) _ (o + 12) 2 (g .rs) rs (size .1) (omega arith) in
+        let level = field file (o + 12) _ (o + 14) 2 depth d (record-size .1) (omega arith) in
+        let split = byte file (o + 14) _ (o + 15) 100 (level .1) (omega arith) in
+        let merge = byte file (o + 15) _ (o + 16) 40 (split .1) (omega arith) in
+        let address = field file (o + 16) _ (o + 16 + g .ow) (g .ow) root a (merge .1) (omega arith) in
+        let count = field file (o + 16 + g .ow) _ (o + 18 + g .ow) 2 rootRecords r (address .1) (omega arith) in
+        let total = stand-num file (o + 18 + g .ow) lw n (count .1) c in
+        parsed-passed file o (g .ow) lw end (stand-left file o headerSignature _ read-unsummed) (version .0) fo fl (read-checksum _)
+        ∙ rw (treeType .0, size .0, record-size .0, level .0, address .0, count .0, total)
+
+-- What a write that was accepted put into the header.
+module _ (q : Request) (recs : List ℕ) (a : Accepts q recs) where
+  plan : Plannable (q .n) (q .rs) (q .ns) (q .ow)
+  plan = accepted-plannable (q .n) (q .rs) (q .ns) (q .ow) (a .figures) (a .plan) .0
+
+  -- The depth and the root's records fit their two bytes; where there is no record, the root is an empty leaf.
+  deep : depthOf q < 256 ^ 2
+  unfolding planDepth
+  deep = omega (arith, depth-le (q .ns) (q .rs) (q .ow) (q .n))
+
+  root-empty : q .n ≡ 0 → rootRecordsOf q ≡ 0
+  unfolding rootRecordsOf planned planDepth depthFor planTree count
+  root-empty z =
+      let e : depthFrom (q .ns) (q .rs) (q .ow) (q .n) 32 0 ≡ 0 = from-enough (q .ns) (q .rs) (q .ow) (q .n) 32 0 (rw z zero-le) in
+      rw e z
+
+  root-small : rootRecordsOf q < 256 ^ 2
+  unfolding leafCapacity
+  root-small =
+      ⊎-elim
+      (λ (z : q .n ≡ 0). rw (root-empty z) (lit< tt))
+      (λ (some : 0 < q .n). omega (arith, plan, root-held q recs a some, div-le-self (q .ns - 10) (q .rs)))
+      (eq-zero-or-pos (q .n))
+
+  -- The header stands whole at o, and is read as it was written.
+  pub header-returned : q .rs < 65536 → (file : List ℕ) (o : ℕ) → part file o (22 + q .ow + q .lw) ≡ headerOf q
+      → parsed file o (q .ow) (q .lw) ≡ accepted (headerFigures (headerWritten q))
+  unfolding headerOf formOf headerWritten
+  header-returned rs file o h =
+      header-read lookup3-lt file o (formOf q) (q .lw) (depthOf q) (rootOf q) (rootRecordsOf q) (q .n) (rw length-headerOf h)
+      (a .offset) (a .lengths) (omega (arith, plan)) rs deep (root-fits q recs a) root-small (count-fits q recs a)

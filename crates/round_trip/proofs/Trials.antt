@@ -1,0 +1,239 @@
+-- The definitions computed on small trees and files, beside the answers due. Bytes, headers read, records collected and the reading calls'
+-- refusals 1 to 6 with their figures are what the Rust gave for the same input; counts, what a refused collecting leaves, and a write's
+-- refusals and 8, 15 and 16 are document 01's.
+use mathlib.Core.Path.{_≡_, refl}
+use mathlib.Core.List.{List, [], _∷_, _++_, reverse}
+use Prim.Native.Nat.{ℕ, zero, suc, _+_, _-_, _*_, _%_}
+use lib.ListN.{length, take, set, replicate}
+use Rattle.checksum.proofs.Promise.{lookup3, computed}
+use Rattle.numbers.specs.Numbers.{pick, le, unle, num, leastFrom, width, fieldSize}
+use Rattle.numbers.specs.Places.{stored, over}
+use Rattle.refusal.specs.Answer.{cells}
+use Rattle.node_info.specs.Capacity.{leafCapacity, countWidth, pointerSize, internalCapacity, subtreeCapacity, totalWidth, nodeCapacity, depthFrom, depthFor}
+use Rattle.plan.specs.Tree.{sumKids, between, count, size, below, nodes, leaves}
+use Rattle.plan.specs.Planned.{taken, dealt, children, kidsOf, planTree, anyOf, thin, planDepth, planned, planFigures, planAnswer}
+use Rattle.format.specs.Bytes.{summed, padded, pointerBytes, address, rows, leafBytes, pointer, pointers, ownRows, internalBytes, kidsImage, image, headerBytes}
+use Rattle.format.specs.Request.{Request, formOf, nodesOf, imageOf, rootOf, rootRecordsOf, headerOf}
+use Rattle.write_checks.specs.Writing.{writeAnswer, written, headerExit, imageExit}
+use Rattle.btree_v2_collect.specs.Walk.{putRecord, putRecords, leafRun, childRun, innerRun, childrenRun, nodeRun}
+use Rattle.btree_v2_internal.specs.Internal.{pointerWidth, pointerPlace, childAddress, childRecords, internalTest}
+use Rattle.read_checks.specs.Tests.{same, checksumTest}
+use Rattle.btree_v2_header.specs.Header.{Header, headerAt, parsed}
+use Rattle.btree_v2_leaf.specs.Leaf.{leafTest}
+use Rattle.btree_v2_collect.specs.Collect.{collectTests, sourceOf, collected, runCells, runOutput}
+
+-- w bytes as a hexadecimal number shows them, and nodes of w bytes one after another.
+dump : ℕ → ℕ → List ℕ
+dump w x = reverse (le w x)
+
+dumps : ℕ → List ℕ → List ℕ
+dumps w [] = []
+dumps w (x ∷ xs) = dump w x ++ dumps w xs
+
+-- The first n bytes of all records here, and what a lent buffer holds before the call.
+rampFrom : ℕ → ℕ → List ℕ
+rampFrom zero x = []
+rampFrom (suc n) x = x ∷ rampFrom n ((x + 37) % 256)
+
+ramp : ℕ → List ℕ
+ramp n = rampFrom n 11
+
+lent : ℕ → List ℕ
+lent n = replicate n 170
+
+-- A trial: what the definitions give and what is due.
+record Trial : Type 0 where
+  found : List ℕ
+  due : List ℕ
+
+-- An accepted write, into buffers that are longer by 3 and 2 bytes.
+writing : Request → List ℕ → List ℕ → List ℕ → Trial
+writing q figures header nodes =
+    let recs = ramp (q .n * q .rs) in
+    let h = lent (length header + 3) in
+    let i = lent (length nodes + 2) in
+    record {
+      found = cells 5 (written q recs h i) ++ (headerExit q recs h i ++ imageExit q recs h i);
+      due = (0 ∷ figures) ++ ((header ++ lent 3) ++ (nodes ++ lent 2));
+    }
+
+-- A larger write by the checksums of its header and its image: in this one a subtree's total has two bytes.
+summing : Request → ℕ → ℕ → Trial
+summing q header nodes =
+    record { found = lookup3 (headerOf q) ∷ lookup3 (imageOf q (ramp (q .n * q .rs))) ∷ []; due = header ∷ nodes ∷ [] }
+
+-- A refused write, by the lengths of the three buffers.
+refusing : Request → ℕ → ℕ → ℕ → List ℕ → Trial
+refusing q recsLength headerLength imageLength answer =
+    record { found = cells 3 (writeAnswer q recsLength headerLength imageLength); due = answer }
+
+-- A header read.
+reading : List ℕ → ℕ → ℕ → ℕ → List ℕ → Trial
+reading file o ow lw answer = record { found = cells 8 (parsed file o ow lw); due = answer }
+
+-- A collecting into an output of n bytes, of which the first k are then the records put out.
+collecting : List ℕ → Header → ℕ → ℕ → List ℕ → ℕ → Trial
+collecting file h ow n answer k =
+    let r = collected file h ow (lent n) in
+    record { found = runCells r ++ runOutput r; due = answer ++ (ramp k ++ lent (n - k)) }
+
+request : ℕ → ℕ → ℕ → ℕ → ℕ → ℕ → ℕ → Request
+request treeType n rs ns ow lw start =
+    record { treeType = treeType; n = n; rs = rs; ns = ns; ow = ow; lw = lw; start = start }
+
+header : ℕ → ℕ → ℕ → ℕ → ℕ → ℕ → Header
+header ns rs depth root rootRecords records =
+    record { treeType = 6; ns = ns; rs = rs; depth = depth; root = root; rootRecords = rootRecords; records = records }
+
+-- What the Rust wrote: 40/8/8 with 3 records; 40/8/2 with 4; 40/8/8 with 8, to stand behind 7 bytes and the header; 26/8/4 with 2; 10/8/8
+-- with none.
+threeHeader : List ℕ
+threeHeader = dump 38 0x4254484400052800000008000000642800000000000000000300030000000000000008aa5f0f
+
+threeImage : List ℕ
+threeImage = dump 40 0x42544c4600050b30557a9fc4e90e33587da2c7ec11365b80a5caef14395ef7e5e8fb000000000000
+
+fourHeader : List ℕ
+fourHeader = dump 26 0x42544844000828000000080001006428d7ff01000400381e8a96
+
+fourImage : List ℕ
+fourImage =
+    dumps 40
+    (0x42544c4600080b30557a9fc4e90e33587da2c7ec113622296d8c0000000000000000000000000000
+    ∷ 0x42544c46000883a8cdf2173c6186b27abe4b00000000000000000000000000000000000000000000
+    ∷ 0x4254494e00085b80a5caef14395e87ff02afff01256bcbc600000000000000000000000000000000
+    ∷ [])
+
+eightHeader : List ℕ
+eightHeader = dump 38 0x425448440006280000000800020064281d01000000000000010008000000000000000dad97a6
+
+eightImage : List ℕ
+eightImage =
+    dumps 40
+    (0x42544c4600060b30557a9fc4e90e33587da2c7ec113658bca6600000000000000000000000000000
+    ∷ 0x42544c46000683a8cdf2173c61866327beb400000000000000000000000000000000000000000000
+    ∷ 0x4254494e00065b80a5caef14395e2d00000000000000025500000000000000014bf658be00000000
+    ∷ 0x42544c460006d3f81d42678cb1d6c42d209100000000000000000000000000000000000000000000
+    ∷ 0x42544c46000623486d92b7dc0126cc74306500000000000000000000000000000000000000000000
+    ∷ 0x4254494e0006fb20456a8fb4d9fea50000000000000001cd00000000000000012b047e9a00000000
+    ∷ 0x4254494e0006abd0f51a3f6489ae7d000000000000000104f500000000000000010314a09e9b0000
+    ∷ [])
+
+eightFile : List ℕ
+eightFile = ramp 7 ++ (eightHeader ++ eightImage)
+
+twoHeader : List ℕ
+twoHeader = dump 34 0x4254484400ff1a0000000800000064280700000002000200000000000000f0bdab69
+
+twoImage : List ℕ
+twoImage = dump 26 0x42544c4600ff0b30557a9fc4e90e33587da2c7ec113636d70c43
+
+noneHeader : List ℕ
+noneHeader = dump 34 0x4254484400000a0000000800000064280000000000010000000000000000d2d02a31
+
+noneImage : List ℕ
+noneImage = dump 10 0x42544c460000395c5443
+
+writes : List Trial
+writes =
+    writing (request 5 3 8 40 8 8 0) (0 ∷ 1 ∷ 1 ∷ 40 ∷ []) threeHeader threeImage
+    ∷ writing (request 8 4 8 40 2 2 65415) (1 ∷ 3 ∷ 2 ∷ 120 ∷ []) fourHeader fourImage
+    ∷ writing (request 6 8 8 40 8 8 45) (2 ∷ 7 ∷ 4 ∷ 280 ∷ []) eightHeader eightImage
+    ∷ writing (request 255 2 8 26 4 8 7) (0 ∷ 1 ∷ 1 ∷ 26 ∷ []) twoHeader twoImage
+    ∷ writing (request 0 0 8 10 8 4 1099511627776) (0 ∷ 1 ∷ 1 ∷ 10 ∷ []) noneHeader noneImage
+    ∷ summing (request 9 280 1 44 2 4 100) 0xca859295 0x46aaec02
+    ∷ refusing (request 0 3 0 9 3 1 0) 1 0 0 (4 ∷ 3 ∷ 0 ∷ [])
+    ∷ refusing (request 0 3 0 9 8 1 0) 1 0 0 (5 ∷ 1 ∷ 0 ∷ [])
+    ∷ refusing (request 0 16777216 0 9 8 8 0) 1 0 0 (7 ∷ 9 ∷ 0 ∷ [])
+    ∷ refusing (request 0 16777216 0 65537 8 8 0) 1 0 0 (7 ∷ 65537 ∷ 0 ∷ [])
+    ∷ refusing (request 0 16777216 0 65536 8 8 0) 1 0 0 (8 ∷ 0 ∷ 0 ∷ [])
+    ∷ refusing (request 0 16777216 1 65536 8 8 0) 1 0 0 (9 ∷ 16777216 ∷ 0 ∷ [])
+    ∷ refusing (request 0 3 8 26 8 8 0) 1 0 0 (10 ∷ 1 ∷ 0 ∷ [])
+    ∷ refusing (request 0 1 8 17 8 8 0) 1 0 0 (10 ∷ 0 ∷ 0 ∷ [])
+    ∷ refusing (request 0 4 20 48 8 8 0) 1 0 0 (10 ∷ 2 ∷ 0 ∷ [])
+    ∷ refusing (request 0 2 20 48 8 8 0) 1 0 0 (11 ∷ 0 ∷ 0 ∷ [])
+    ∷ refusing (request 0 65536 1 65536 2 2 9) 65535 0 0 (12 ∷ 65535 ∷ 0 ∷ [])
+    ∷ refusing (request 0 65536 1 65536 2 2 9) 65536 0 0 (13 ∷ 65536 ∷ 0 ∷ [])
+    ∷ refusing (request 0 65535 1 65536 2 2 9) 65535 0 0 (14 ∷ 9 ∷ 0 ∷ [])
+    ∷ refusing (request 0 4 8 40 2 2 65416) 32 0 0 (14 ∷ 65416 ∷ 0 ∷ [])
+    ∷ refusing (request 0 4 8 40 2 2 65415) 32 25 119 (15 ∷ 25 ∷ 0 ∷ [])
+    ∷ refusing (request 0 4 8 40 2 2 65415) 32 26 119 (15 ∷ 119 ∷ 0 ∷ [])
+    ∷ refusing (request 0 4 8 40 2 2 65415) 32 26 120 (0 ∷ 1 ∷ 3 ∷ [])
+    ∷ []
+
+reads : List Trial
+reads =
+    reading eightFile 7 8 8 (0 ∷ 6 ∷ 40 ∷ 8 ∷ 2 ∷ 285 ∷ 1 ∷ 8 ∷ [])
+    ∷ reading (take 10 eightFile) 7 8 8 (1 ∷ 11 ∷ 10 ∷ zeros)
+    ∷ reading (take 22 eightFile) 7 8 8 (1 ∷ 23 ∷ 22 ∷ zeros)
+    ∷ reading (take 30 eightFile) 7 8 8 (1 ∷ 31 ∷ 30 ∷ zeros)
+    ∷ reading (take 32 eightFile) 7 8 7 (1 ∷ 33 ∷ 32 ∷ zeros)
+    ∷ reading (take 40 eightFile) 7 8 8 (1 ∷ 41 ∷ 40 ∷ zeros)
+    ∷ reading (take 44 eightFile) 7 8 8 (1 ∷ 45 ∷ 44 ∷ zeros)
+    ∷ reading eightFile 18446744073709551615 8 8 (1 ∷ 18446744073709551615 ∷ 325 ∷ zeros)
+    ∷ reading (take 11 (set eightFile 10 69)) 7 8 8 (2 ∷ 0 ∷ 0 ∷ zeros)
+    ∷ reading (set eightFile 11 3) 7 3 8 (3 ∷ 3 ∷ 0 ∷ zeros)
+    ∷ reading (take 23 eightFile) 7 3 8 (4 ∷ 3 ∷ 0 ∷ zeros)
+    ∷ reading (take 33 eightFile) 7 8 7 (5 ∷ 7 ∷ 0 ∷ zeros)
+    ∷ reading (set eightFile 21 98) 7 8 8 (6 ∷ 2794958093 ∷ 303078907 ∷ zeros)
+    ∷ reading (set (set (take 41 eightFile) 21 98) 22 30 ++ dump 4 0xa5e0f35e) 7 8 8 (0 ∷ 6 ∷ 40 ∷ 8 ∷ 2 ∷ 285 ∷ 1 ∷ 8 ∷ [])
+    ∷ []
+  where
+    zeros : List ℕ
+    zeros = 0 ∷ 0 ∷ 0 ∷ 0 ∷ 0 ∷ []
+
+collects : List Trial
+collects =
+    eight eightFile 67 (0 ∷ 0 ∷ 0 ∷ 8 ∷ 4 ∷ 3 ∷ 3 ∷ []) 64
+    ∷ eight eightFile 63 (15 ∷ 63 ∷ 0 ∷ 7 ∷ 4 ∷ 3 ∷ 3 ∷ []) 56
+    ∷ eight eightFile 39 (15 ∷ 39 ∷ 0 ∷ 4 ∷ 2 ∷ 2 ∷ 1 ∷ []) 32
+    ∷ eight eightFile 23 (15 ∷ 23 ∷ 0 ∷ 2 ∷ 1 ∷ 2 ∷ 0 ∷ []) 16
+    ∷ eight eightFile 0 (15 ∷ 0 ∷ 0 ∷ 0 ∷ 1 ∷ 2 ∷ 0 ∷ []) 0
+    ∷ eight (set eightFile 212 0) 64 (6 ∷ 1697674444 ∷ 870689798 ∷ 7 ∷ 3 ∷ 3 ∷ 3 ∷ []) 56
+    ∷ eight (set eightFile 88 0) 64 (2 ∷ 0 ∷ 0 ∷ 3 ∷ 1 ∷ 2 ∷ 1 ∷ []) 24
+    ∷ eight (set eightFile 245 0) 64 (2 ∷ 0 ∷ 0 ∷ 5 ∷ 2 ∷ 2 ∷ 2 ∷ []) 40
+    ∷ eight (set (set (set (set eightFile 289 1) 290 99) 308 9) 322 1) 64 (0 ∷ 0 ∷ 0 ∷ 8 ∷ 4 ∷ 3 ∷ 3 ∷ []) 64
+    ∷ eight (take 290 eightFile) 64 (1 ∷ 291 ∷ 290 ∷ none) 0
+    ∷ eight (take 298 eightFile) 64 (1 ∷ 14 ∷ 13 ∷ none) 0
+    ∷ eight (take 318 eightFile) 64 (1 ∷ 34 ∷ 33 ∷ none) 0
+    ∷ eight (set (set eightFile 268 144) 269 1) 64 (1 ∷ 406 ∷ 325 ∷ 7 ∷ 3 ∷ 3 ∷ 3 ∷ []) 56
+    ∷ collecting eightFile (header 40 8 2 285 4 8) 8 64 (1 ∷ 88 ∷ 40 ∷ none) 0
+    ∷ collecting eightFile (header 40 8 2 18446744073709551615 1 8) 8 64 (1 ∷ 18446744073709551615 ∷ 325 ∷ none) 0
+    ∷ collecting eightFile (header 40 8 2 285 1 8) 3 64 (4 ∷ 3 ∷ 0 ∷ none) 0
+    ∷ collecting eightFile (header 40 0 33 285 1 8) 8 64 (8 ∷ 0 ∷ 0 ∷ none) 0
+    ∷ collecting eightFile (header 40 8 33 285 1 8) 8 64 (16 ∷ 33 ∷ 0 ∷ none) 0
+    ∷ collecting [] (header 40 0 33 285 0 8) 8 64 (0 ∷ 0 ∷ 0 ∷ none) 0
+    ∷ collecting [] (header 40 0 33 285 1 0) 8 64 (0 ∷ 0 ∷ 0 ∷ none) 0
+    ∷ leaf (take 33 threeImage) (0 ∷ 0 ∷ 0 ∷ 3 ∷ 1 ∷ 0 ∷ 0 ∷ []) 24
+    ∷ leaf (set (take 33 threeImage) 32 0) (0 ∷ 0 ∷ 0 ∷ 3 ∷ 1 ∷ 0 ∷ 0 ∷ []) 24
+    ∷ leaf (set (take 34 threeImage) 33 0) (6 ∷ 15263223 ∷ 4226344439 ∷ none) 0
+    ∷ leaf (take 29 threeImage) (1 ∷ 30 ∷ 29 ∷ none) 0
+    ∷ leaf (take 5 threeImage) (1 ∷ 6 ∷ 5 ∷ none) 0
+    ∷ collecting (dump 36 0x4254494e00005511000200011d000100ff42544c4600000b309294cc3042544c4600007a) (header 70000 1 1 0 1 9) 2 6
+    (0 ∷ 0 ∷ 0 ∷ 4 ∷ 2 ∷ 1 ∷ 1 ∷ []) 4
+    ∷ []
+  where
+    none : List ℕ
+    none = 0 ∷ 0 ∷ 0 ∷ 0 ∷ []
+
+    eight : List ℕ → ℕ → List ℕ → ℕ → Trial
+    eight file n answer k = collecting file (header 40 8 2 285 1 8) 8 n answer k
+
+    leaf : List ℕ → List ℕ → ℕ → Trial
+    leaf file answer k = collecting file (header 40 8 0 0 3 3) 3 25 answer k
+
+-- The numbers of the trials that disagree.
+disagreeing : ℕ → List Trial → List ℕ
+disagreeing i [] = []
+disagreeing i (t ∷ ts) = let rest = disagreeing (i + 1) ts in pick (same (t .found) (t .due)) rest (i ∷ rest)
+
+agree : disagreeing 0 (writes ++ (reads ++ collects)) ≡ []
+unfolding computed le unle num leastFrom width fieldSize stored cells leafCapacity countWidth pointerSize internalCapacity subtreeCapacity
+    totalWidth nodeCapacity depthFrom depthFor sumKids between count size below nodes leaves taken dealt children kidsOf planTree anyOf thin
+    planDepth planned planFigures planAnswer summed padded pointerBytes address rows leafBytes pointer pointers ownRows internalBytes
+    kidsImage image headerBytes over formOf nodesOf imageOf rootOf rootRecordsOf headerOf writeAnswer written headerExit imageExit putRecord
+    putRecords pointerWidth pointerPlace childAddress childRecords leafRun childRun innerRun childrenRun nodeRun same checksumTest headerAt
+    parsed leafTest internalTest collectTests sourceOf collected runCells dump dumps rampFrom ramp lent writing summing refusing reading
+    collecting request header threeHeader threeImage fourHeader fourImage eightHeader eightImage eightFile twoHeader twoImage noneHeader
+    noneImage writes reads collects disagreeing
+agree = refl

@@ -1,0 +1,93 @@
+-- What an accepted write says of its numbers.
+use mathlib.Core.Path.{_≡_, refl}
+use mathlib.Core.Bool.{Bool, true, false}
+use mathlib.Core.List.{List, []}
+use Prim.Native.Nat.{ℕ, _+_, _-_, _*_, _^_, _≤_, _<_}
+use native.Mathlib.Nat.{one-le-pow}
+use native.Mathlib.Omega.{arith}
+use lib.Dec.{leb, eqb, lit<}
+use lib.ListN.{length}
+use borrow.Author.Tests.{leb-true, eqb-true}
+use Rattle.numbers.specs.Numbers.{fieldSize}
+use Rattle.numbers.proofs.Numbers.{pow-256}
+use Rattle.refusal.specs.Answer.{Answer, accepted, refused, orElse, onAccepted}
+use Rattle.plan.specs.Tree.{nodes}
+use Rattle.plan.specs.Planned.{planAnswer}
+use Rattle.format.specs.Bytes.{address}
+use Rattle.format.specs.Request.{Request, formOf, nodesOf, rootOf}
+use Rattle.write_checks.specs.Writing.{writeAnswer, written}
+
+-- The refusals that have not come: 4, 5, the plan's, 12, 13 and 14.
+pub record Accepts (q : Request) (recs : List ℕ) : Type 0 where
+  pub figures : List ℕ
+  pub offset : fieldSize (q .ow) ≡ true
+  pub lengths : fieldSize (q .lw) ≡ true
+  pub plan : planAnswer (q .n) (q .rs) (q .ns) (q .ow) ≡ accepted figures
+  pub records : length recs ≡ q .n * q .rs
+  pub count : q .n ≤ 2 ^ (8 * q .lw) - 1
+  pub end : q .start + nodesOf q * q .ns ≤ 2 ^ (8 * q .ow) - 1
+
+-- A test that a refusal follows has held where the answer accepts.
+held-test : (b : Bool) (number : ℕ) (values figures : List ℕ) (rest : Answer) → orElse b (refused number values) rest ≡ accepted figures
+    → (b ≡ true) × (rest ≡ accepted figures)
+held-test true number values figures rest e = (refl, e)
+held-test false number values figures rest e = (cc, cc)
+
+go-on : (p : Answer) (rest : Answer) (figures : List ℕ) → onAccepted p rest ≡ accepted figures
+    → ((f : List ℕ) × (p ≡ accepted f)) × (rest ≡ accepted figures)
+go-on (accepted f) rest figures e = ((f, refl), e)
+go-on (refused number values) rest figures e = (([], cc), cc)
+
+-- And the two outputs are long enough.
+pub record Roomy (q : Request) (hdr img : List ℕ) : Type 0 where
+  pub header : 22 + q .ow + q .lw ≤ length hdr
+  pub image : nodesOf q * q .ns ≤ length img
+
+passes : (q : Request) (recs hdr img figures : List ℕ) → written q recs hdr img ≡ accepted figures
+    → Accepts q recs × Roomy q hdr img × (planAnswer (q .n) (q .rs) (q .ns) (q .ow) ≡ accepted figures)
+unfolding written writeAnswer
+passes q recs hdr img figures e =
+    let a = held-test (fieldSize (q .ow)) _ _ _ _ e in
+    let b = held-test (fieldSize (q .lw)) _ _ _ _ (a .1) in
+    let p = go-on (planAnswer (q .n) (q .rs) (q .ns) (q .ow)) _ _ (b .1) in
+    let r = held-test (eqb (length recs) (q .n * q .rs)) _ _ _ _ (p .1) in
+    let c = held-test (leb (q .n) (2 ^ (8 * q .lw) - 1)) _ _ _ _ (r .1) in
+    let x = held-test (leb (q .start + nodesOf q * q .ns) (2 ^ (8 * q .ow) - 1)) _ _ _ _ (c .1) in
+    let h = held-test (leb (22 + q .ow + q .lw) (length hdr)) _ _ _ _ (x .1) in
+    let i = held-test (leb (nodesOf q * q .ns) (length img)) _ _ _ _ (h .1) in (
+      record {
+        figures = p .0 .0;
+        offset = a .0;
+        lengths = b .0;
+        plan = p .0 .1;
+        records = eqb-true _ _ (r .0);
+        count = leb-true _ _ (c .0);
+        end = leb-true _ _ (x .0);
+      },
+      record { header = leb-true _ _ (h .0); image = leb-true _ _ (i .0) },
+      i .1,
+    )
+
+pub accepts : (q : Request) (recs hdr img figures : List ℕ) → written q recs hdr img ≡ accepted figures → Accepts q recs
+accepts q recs hdr img figures e = passes q recs hdr img figures e .0
+
+pub roomy : (q : Request) (recs hdr img figures : List ℕ) → written q recs hdr img ≡ accepted figures → Roomy q hdr img
+roomy q recs hdr img figures e = passes q recs hdr img figures e .1
+
+-- Its figures are the plan's.
+pub plan-accepted : (q : Request) (recs hdr img figures : List ℕ) → written q recs hdr img ≡ accepted figures
+    → planAnswer (q .n) (q .rs) (q .ns) (q .ow) ≡ accepted figures
+plan-accepted q recs hdr img figures e = passes q recs hdr img figures e .2
+
+-- A number up to 2^(8 w) - 1 fits w bytes.
+fits-field : (w x : ℕ) → x ≤ 2 ^ (8 * w) - 1 → x < 256 ^ w
+fits-field w x h = rw pow-256 (omega (arith, one-le-pow (8 * w) 2 (lit< tt)))
+
+-- So the record count fits the length size, and the root's address the offset size.
+module _ (q : Request) (recs : List ℕ) (a : Accepts q recs) where
+  pub count-fits : q .n < 256 ^ q .lw
+  count-fits = fits-field (q .lw) (q .n) (a .count)
+
+  pub root-fits : rootOf q < 256 ^ q .ow
+  unfolding rootOf address formOf nodesOf nodes
+  root-fits = fits-field (q .ow) _ (omega (arith, a .end))

@@ -1,0 +1,78 @@
+-- The tests of the numbers and of the lent buffers' lengths, by their ways out.
+use mathlib.Core.Path.{_≡_, sym}
+use mathlib.Core.Bool.{true}
+use mathlib.Core.List.{[], _∷_}
+use Prim.Native.Nat.{ℕ, _+_, _-_, _*_, _^_, _≤_, _<_}
+use native.Mathlib.Nat.{mul-le-mul}
+use native.Mathlib.Omega.{arith}
+use mir.Val.{Fits}
+use mir.Syntax.{w64}
+use lib.Dec.{leb}
+use borrow.Author.Tests.{le-leb, lt-leb, eq-eqb, ne-eqb, eqb-true}
+use Rattle.numbers.specs.Numbers.{fieldSize}
+use Rattle.refusal.specs.Answer.{Answer, accepted, refused, orElse}
+use Rattle.write_checks.specs.declared.Lengths.{Lengths}
+use Rattle.write_checks.specs.Tests.{lengthAnswer}
+
+-- `largest`
+pub largest-2 : (s : ℕ) → s ≡ 2 → 0xffff ≡ 2 ^ (8 * s) - 1
+largest-2 s e = rw e
+
+pub largest-4 : (s : ℕ) → s ≡ 4 → 0xffffffff ≡ 2 ^ (8 * s) - 1
+largest-4 s e = rw e
+
+pub largest-8 : (s : ℕ) → fieldSize s ≡ true → (s ≡ 2 → ⊥) → (s ≡ 4 → ⊥) → 0xffffffffffffffff ≡ 2 ^ (8 * s) - 1
+unfolding fieldSize
+largest-8 s h a b =
+    let e : s ≡ 8 = eqb-true s 8 (rw (ne-eqb s 2 a, ne-eqb s 4 b) at h) in rw e
+
+-- A number of records times a record size fits.
+pub bytes-fit : (n rs : ℕ) → n < 2 ^ 24 → rs < 2 ^ 16 → Fits w64 (n * rs)
+bytes-fit n rs h l =
+    let m = mul-le-mul {n₁ = n} {m₁ = rs} {n₂ = 2 ^ 24} {m₂ = 2 ^ 16} (omega arith) (omega arith) in omega (arith, m)
+
+-- `test_lengths`
+module _ (image n rs ow lw start : ℕ) (l : Lengths) where
+  abbrev Is : Answer → Type 0
+  Is a = a ≡ lengthAnswer image n rs ow lw start l
+
+  pub lengths-12 : (l .records ≡ n * rs → ⊥) → Is (refused 12 (l .records ∷ []))
+  unfolding lengthAnswer
+  lengths-12 h = rw (ne-eqb (l .records) (n * rs) h)
+
+  module _ (records : l .records ≡ n * rs) (top : ℕ) (tops : top ≡ 2 ^ (8 * lw) - 1) where
+    pub lengths-13 : top < n → Is (refused 13 (n ∷ []))
+    unfolding lengthAnswer
+    lengths-13 h = rw (eq-eqb (l .records) (n * rs) records, lt-leb n (2 ^ (8 * lw) - 1) (rw tops at h))
+
+    module _ (count : n ≤ top) where
+      lengths-14 : 2 ^ (8 * ow) - 1 < start + image → Is (refused 14 (start ∷ []))
+      unfolding lengthAnswer
+      lengths-14 h =
+          rw (eq-eqb (l .records) (n * rs) records, le-leb n (2 ^ (8 * lw) - 1) (rw tops at count), lt-leb (start + image) (2 ^ (8 * ow) - 1) h)
+
+      module _ (most : ℕ) (largest : most ≡ 2 ^ (8 * ow) - 1) where
+        pub lengths-14-image : most < image → Is (refused 14 (start ∷ []))
+        lengths-14-image h = lengths-14 (omega arith)
+
+        module _ (room : image ≤ most) where
+          pub lengths-14-start : most - image < start → Is (refused 14 (start ∷ []))
+          lengths-14-start h = lengths-14 (omega arith)
+
+          module _ (reach : start ≤ most - image) where
+            passed : (rest : Answer) → orElse (leb (22 + ow + lw) (l .header)) (refused 15 (l .header ∷ []))
+                (orElse (leb image (l .image)) (refused 15 (l .image ∷ [])) (accepted [])) ≡ rest → Is rest
+            unfolding lengthAnswer
+            passed rest e =
+                let s : start + image ≤ 2 ^ (8 * ow) - 1 = omega arith in
+                rw (eq-eqb (l .records) (n * rs) records, le-leb n (2 ^ (8 * lw) - 1) (rw tops at count), le-leb (start + image) (2 ^ (8 * ow) - 1) s) (sym e)
+
+            pub lengths-15-header : l .header < 22 + ow + lw → Is (refused 15 (l .header ∷ []))
+            lengths-15-header h = passed _ (rw (lt-leb (22 + ow + lw) (l .header) h))
+
+            module _ (header : 22 + ow + lw ≤ l .header) where
+              pub lengths-15-image : l .image < image → Is (refused 15 (l .image ∷ []))
+              lengths-15-image h = passed _ (rw (le-leb (22 + ow + lw) (l .header) header, lt-leb image (l .image) h))
+
+              pub lengths-passed : image ≤ l .image → Is (accepted [])
+              lengths-passed h = passed _ (rw (le-leb (22 + ow + lw) (l .header) header, le-leb image (l .image) h))

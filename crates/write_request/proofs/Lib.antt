@@ -1,3 +1,0 @@
--- The laws behind the functions' proofs.
-mod Testing
-mod Checking
