@@ -9,7 +9,7 @@ SHELL := bash
 .PHONY: test files run lib install bench soak
 
 # The crates that have C functions, each with its header in include/.
-EXPORTED := checksum capi
+EXPORTED := checksum btree_v2
 HEADERS := include/checksum.h include/btree_v2.h
 ARCHIVES := $(EXPORTED:%=target/staticlib/lib%.a)
 CC := gcc

@@ -5,7 +5,7 @@ use std::path::Path;
 
 /// The crates whose archives are linked. The checksum's comes last: if one before it holds the
 /// checksum too, the last one adds no second one.
-const ARCHIVES: [&str; 2] = ["capi", "checksum"];
+const ARCHIVES: [&str; 2] = ["btree_v2", "checksum"];
 
 fn main() {
     println!("cargo::rerun-if-changed=build.rs");

@@ -11,7 +11,9 @@ ghost use Rattle.btree_v2_collect.specs.Collect.{collected, runCells, runOutput
 ghost use Rattle.btree_v2_leaf_view.specs.Look.{recordAnswer, recordExit};
 ghost use Rattle.btree_v2_write.specs.Call.{asked};
 ghost use Rattle.btree_v2.specs.Given.{given};
+use btree_v2_collect::collect;
 use btree_v2_header::BTreeV2Header;
+use btree_v2_leaf_view::copy_leaf_record;
 use node_info::NodeInfo;
 use plan::BTreeV2Plan;
 
@@ -123,12 +125,7 @@ pub extern "C" fn btree_v2_collect(
         num_records_in_root: root_records,
         total_records,
     };
-    let collected = btree_v2_collect::collect::collect_btree_v2_records(
-        file,
-        header,
-        offset_size,
-        output,
-    );
+    let collected = collect::collect_btree_v2_records(file, header, offset_size, output);
     answers::put_collected(answer, collected);
 }
 
@@ -146,13 +143,6 @@ pub extern "C" fn btree_v2_leaf_record(
     ensures answered { λ _. ⌜ now (answer .exit) ≡ cells 3 (recordAnswer (now (file .entry)) «record_size» address count index (now (output .entry))) ⌝ }
     ensures outputLeft { λ _. ⌜ now (output .exit) ≡ recordExit (now (file .entry)) «record_size» address count index (now (output .entry)) ⌝ }
 {
-    let copied = btree_v2_leaf_view::copy_leaf_record(
-        file,
-        address,
-        count,
-        record_size,
-        index,
-        output,
-    );
+    let copied = copy_leaf_record(file, address, count, record_size, index, output);
     answers::put_record(answer, copied);
 }
