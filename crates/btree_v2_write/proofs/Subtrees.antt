@@ -207,17 +207,17 @@ module _ {l : Layout} {most wide : List ℕ} {R I depth n j r k b x : ℕ} (deal
     first-ready =
         kid 0 m j r refl e (rw first-left (omega arith)) (let q = rw first-left at rows-all in omega (arith, q))
 
--- The loop over the children from child 1 on. It began with the image o₁, when child 0 had returned `large`; before child i the children have
--- come to `total` records and `nodes` nodes, and the one before it, from child 2 on, to `small`.
-pub record KidsLeft (l : Layout) (most wide recs o₁ : List ℕ) (depth n j r k b x : ℕ) (large : Child) (o : List ℕ) (small : Child) (total nodes i : ℕ) : Type 0 where
+-- The loop over the children from child 1 on. It began with the image o₁, when child 0 had returned `large`; before child i the node `next` and
+-- the record `row` are reached, and the child before it, from child 2 on, has returned `small`.
+pub record KidsLeft (l : Layout) (most wide recs o₁ : List ℕ) (depth n j r k b x : ℕ) (large : Child) (o : List ℕ) (small : Child) (next row i : ℕ) : Type 0 where
   pub dealt : Dealt l most wide (length recs) (length o₁) depth n j r k b x
   pub of-first : ChildOf (depth - 1) (subtree l (depth - 1) (pick (ltb 0 x) (b + 1) b)) large
   pub of-last : 1 < i → ChildOf (depth - 1) (subtree l (depth - 1) (pick (ltb (i - 1) x) (b + 1) b)) small
   pub within : (1 ≤ i) × (i ≤ k + 1)
-  pub reached : nodes + sumOf (subtreeNodes l (depth - 1)) (from (k + 1) x (b + 1) b i) ≡ sumOf (subtreeNodes l (depth - 1)) (twoSizes (k + 1) x (b + 1) b)
-  pub rows : total + i + withOne (from (k + 1) x (b + 1) b i) ≡ n + 1
+  pub reached : next + sumOf (subtreeNodes l (depth - 1)) (from (k + 1) x (b + 1) b i) ≡ j + sumOf (subtreeNodes l (depth - 1)) (twoSizes (k + 1) x (b + 1) b)
+  pub rows : row + withOne (from (k + 1) x (b + 1) b i) ≡ r + n + 1
   pub long : length o ≡ length o₁
-  pub left : stored o ((j + nodes) * l .«node_size») (images l recs (depth - 1) (from (k + 1) x (b + 1) b i) (j + nodes) (r + total + i))
+  pub left : stored o (next * l .«node_size») (images l recs (depth - 1) (from (k + 1) x (b + 1) b i) next row)
       ≡ stored o₁ ((j + large .nodes) * l .«node_size») (images l recs (depth - 1) (from (k + 1) x (b + 1) b 1) (j + large .nodes) (r + large .total + 1))
 
 -- A child in the numbers that its writing returned.
@@ -245,89 +245,104 @@ module _ (l : Layout) (most wide recs : List ℕ) (depth n j r k b x : ℕ) (o :
   pub first-asked : (m : ℕ) → m ≡ pick (ltb 0 x) (b + 1) b → Ready l most wide (length recs) (length o) (depth - 1) m j r
   first-asked m e = first-ready now-dealt e
 
--- The loop begins when the first child is written.
-pub loop-start : {l : Layout} {most wide recs : List ℕ} {depth n j r k b x m : ℕ} {o o₁ : List ℕ} {large small : Child}
-    → Dealt l most wide (length recs) (length o) depth n j r k b x → m ≡ pick (ltb 0 x) (b + 1) b → length o₁ ≡ length o
-    → SubtreeWritten l recs o o₁ (depth - 1) m j r large → KidsLeft l most wide recs o₁ depth n j r k b x large o₁ small (large .total) (large .nodes) 1
-unfolding sumOf withOne
-loop-start {l} {depth = depth} {m = m} {large = large} dealt e same wrote =
-    let many = wrote .child .total ∙ planned-records (capacities l) (depth - 1) m (first-ready dealt e .thick) in
-    let rows = rw (first-left dealt e) at (rows-all dealt) in
-    let child = subst (λ z. ChildOf (depth - 1) (subtree l (depth - 1) z) large) e (wrote .child) in
-    record {
-      dealt = rw same dealt;
-      of-first = child;
-      of-last = λ h. absurd (omega arith);
-      within = (omega arith, omega arith);
-      reached = rw (first-left dealt e) (omega (arith, wrote .child .nodes));
-      rows = omega (arith, rows, many);
-      long = refl;
-      left = refl;
-    }
+-- A number among those of the subtree's nodes, or the one after them; a record's place among its records, or the one after them.
+module _ {l : Layout} {most wide : List ℕ} {R I depth n j r k b x : ℕ} (dealt : Dealt l most wide R I depth n j r k b x) where
+  pub node-fits : (y : ℕ) → y ≤ j + subtreeNodes l (suc (depth - 1)) n → Fits w64 y
+  node-fits y within =
+      let node = ready dealt in
+      number-fits (l .start) j (subtreeNodes l (suc (depth - 1)) n) (l .«node_size») (node-pos node) (node .short) y within
 
-module _ {l : Layout} {most wide recs : List ℕ} {depth n j r k b x : ℕ} {o₁ o : List ℕ} {large small : Child} {total many i : ℕ}
-    (inv : KidsLeft l most wide recs o₁ depth n j r k b x large o small total many i) where
+  pub row-fits : (y : ℕ) → y ≤ r + n + 1 → Fits w64 y
+  row-fits y within = omega (arith, dealt .given .few)
+
+-- The first child is written, and the loop begins.
+module _ {l : Layout} {most wide recs : List ℕ} {depth n j r k b x m : ℕ} {o o₁ : List ℕ} {large : Child}
+    (dealt : Dealt l most wide (length recs) (length o) depth n j r k b x) (e : m ≡ pick (ltb 0 x) (b + 1) b)
+    (wrote : SubtreeWritten l recs o o₁ (depth - 1) m j r large) where
+  large-total : large .total ≡ m
+  large-total = wrote .child .total ∙ planned-records (capacities l) (depth - 1) m (first-ready dealt e .thick)
+
+  rows-first : m + 1 + withOne (from (k + 1) x (b + 1) b 1) ≡ n + 1
+  unfolding withOne
+  rows-first = rw (first-left dealt e) at (rows-all dealt)
+
+  -- Neither the first child nor one of the smaller size has more records than there are.
+  pub first-within : (large .total ≤ n) × (b ≤ n)
+  first-within = (omega (arith, large-total, rows-first), omega (arith, b-is dealt, share-less (ready dealt)))
+
+  pub first-next-fits : Fits w64 (j + large .nodes)
+  unfolding sumOf
+  first-next-fits =
+      let nodes = rw (first-left dealt e) at (nodes-all dealt) in
+      node-fits dealt (j + large .nodes) (omega (arith, wrote .child .nodes, nodes))
+
+  pub loop-start : {small : Child} → length o₁ ≡ length o
+      → KidsLeft l most wide recs o₁ depth n j r k b x large o₁ small (j + large .nodes) (r + large .total + 1) 1
+  unfolding sumOf
+  loop-start same =
+      record {
+        dealt = rw same dealt;
+        of-first = subst (λ z. ChildOf (depth - 1) (subtree l (depth - 1) z) large) e (wrote .child);
+        of-last = λ h. absurd (omega arith);
+        within = (omega arith, omega arith);
+        reached = rw (first-left dealt e) (omega (arith, wrote .child .nodes));
+        rows = omega (arith, rows-first, large-total);
+        long = refl;
+        left = refl;
+      }
+
+module _ {l : Layout} {most wide recs : List ℕ} {depth n j r k b x : ℕ} {o₁ o : List ℕ} {large small : Child} {next row i : ℕ}
+    (inv : KidsLeft l most wide recs o₁ depth n j r k b x large o small next row i) where
   abbrev d : ℕ
   d = depth - 1
 
   abbrev rest : ℕ → List ℕ
   rest = from (k + 1) x (b + 1) b
 
-  -- A number among those of the subtree's nodes, or the one after them.
-  pub node-fits : (y : ℕ) → y ≤ j + subtreeNodes l (suc d) n → Fits w64 y
-  node-fits y within =
-      let node = ready (inv .dealt) in
-      number-fits (l .start) j (subtreeNodes l (suc d) n) (l .«node_size») (node-pos node) (node .short) y within
-
-  pub place-fits : Fits w64 (j + many)
-  place-fits = node-fits (j + many) (omega (arith, inv .reached, nodes-all (inv .dealt)))
-
   -- A turn: child i, and the numbers and the image after it.
   module _ (h : i ≤ k) {m : ℕ} (e : m ≡ pick (ltb i x) (b + 1) b) where
     kid-left : rest i ≡ m ∷ rest (i + 1)
     kid-left = rw e (from-step (k + 1) x (b + 1) b i (omega arith))
 
-    kid-nodes : many + subtreeNodes l d m + sumOf (subtreeNodes l d) (rest (i + 1)) ≡ sumOf (subtreeNodes l d) (twoSizes (k + 1) x (b + 1) b)
+    kid-nodes : next + subtreeNodes l d m + sumOf (subtreeNodes l d) (rest (i + 1)) ≡ j + sumOf (subtreeNodes l d) (twoSizes (k + 1) x (b + 1) b)
     unfolding sumOf
     kid-nodes = let q = rw kid-left at (inv .reached) in omega (arith, q)
 
-    kid-rows : total + i + m + 1 + withOne (rest (i + 1)) ≡ n + 1
+    kid-rows : row + m + 1 + withOne (rest (i + 1)) ≡ r + n + 1
     unfolding withOne
     kid-rows = let q = rw kid-left at (inv .rows) in omega (arith, q)
 
-    pub kid-ready : Ready l most wide (length recs) (length o) d m (j + many) (r + total + i)
-    kid-ready = kid (inv .dealt) i m (j + many) (r + total + i) (inv .long) e (omega (arith, kid-nodes)) (omega (arith, kid-rows))
+    pub kid-ready : Ready l most wide (length recs) (length o) d m next row
+    kid-ready = kid (inv .dealt) i m next row (inv .long) e (omega (arith, kid-nodes)) (omega (arith, kid-rows))
 
-    module _ {o′ : List ℕ} {z : Child} (wrote : SubtreeWritten l recs o o′ d m (j + many) (r + total + i) z) where
+    module _ {o′ : List ℕ} {z : Child} (wrote : SubtreeWritten l recs o o′ d m next row z) where
       z-total : z .total ≡ m
       z-total = wrote .child .total ∙ planned-records (capacities l) d m (kid-ready .thick)
 
-      pub total-fits : Fits w64 (total + z .total)
-      total-fits = omega (arith, z-total, kid-rows, inv .dealt .given .few)
+      pub kid-row : row + z .total + 1 ≤ r + n + 1
+      kid-row = omega (arith, z-total, kid-rows)
 
-      pub nodes-fit : Fits w64 (many + z .nodes)
-      nodes-fit = node-fits (many + z .nodes) (omega (arith, wrote .child .nodes, kid-nodes, nodes-all (inv .dealt)))
+      pub kid-next : next + z .nodes ≤ j + subtreeNodes l (suc d) n
+      kid-next = omega (arith, wrote .child .nodes, kid-nodes, nodes-all (inv .dealt))
 
-      pub loop-turn : KidsLeft l most wide recs o₁ depth n j r k b x large o′ z (total + z .total) (many + z .nodes) (i + 1)
+      pub loop-turn : KidsLeft l most wide recs o₁ depth n j r k b x large o′ z (next + z .nodes) (row + z .total + 1) (i + 1)
       unfolding images
       loop-turn =
           let long = length-subtree recs kid-ready in
-          let next : j + (many + z .nodes) ≡ j + many + subtreeNodes l d m = omega (arith, wrote .child .nodes) in
-          let row : r + (total + z .total) + (i + 1) ≡ r + total + i + m + 1 = omega (arith, z-total) in
           let before : i + 1 - 1 ≡ i = omega arith in
-          let own = subtreeImage l recs d m (j + many) (r + total + i) in
-          let after = images l recs d (rest (i + 1)) (j + many + subtreeNodes l d m) (r + total + i + m + 1) in
-          let ends : (j + many + subtreeNodes l d m) * l .«node_size» ≡ (j + many) * l .«node_size» + length own = rw long (omega arith) in
+          let own = subtreeImage l recs d m next row in
+          let after = images l recs d (rest (i + 1)) (next + subtreeNodes l d m) (row + m + 1) in
+          let ends : (next + subtreeNodes l d m) * l .«node_size» ≡ next * l .«node_size» + length own = rw long (omega arith) in
           record {
             dealt = inv .dealt;
             of-first = inv .of-first;
             of-last = λ _. rw (before, ← e) (wrote .child);
             within = (omega arith, omega arith);
-            reached = rw (wrote .child .nodes) (omega (arith, kid-nodes));
-            rows = omega (arith, z-total, kid-rows);
+            reached = rw (wrote .child .nodes) kid-nodes;
+            rows = rw z-total kid-rows;
             long = ap length (wrote .image) ∙ length-stored o _ own (rw (← ends) (kid-ready .room)) ∙ inv .long;
             left =
-                rw (next, row, wrote .image, stored-turn o _ _ own after (omega (arith, ends, kid-ready .room)) ends)
+                rw (wrote .child .nodes, z-total, wrote .image, stored-turn o _ _ own after (omega (arith, ends, kid-ready .room)) ends)
                 (rw kid-left at (inv .left));
           }
 
@@ -342,19 +357,19 @@ module _ {l : Layout} {most wide recs : List ℕ} {depth n j r k b x : ℕ} {o�
     none-left : rest i ≡ []
     none-left = from-end (k + 1) x (b + 1) b i (omega arith)
 
-    nodes-done : many ≡ sumOf (subtreeNodes l d) (twoSizes (k + 1) x (b + 1) b)
+    nodes-done : next ≡ j + sumOf (subtreeNodes l d) (twoSizes (k + 1) x (b + 1) b)
     unfolding sumOf
     nodes-done = let q = rw none-left at (inv .reached) in omega (arith, q)
 
-    rows-done : total + k ≡ n
+    pub row-is : row ≡ r + n + 1
     unfolding withOne
-    rows-done = let q = rw none-left at (inv .rows) in omega (arith, q, last-is)
+    row-is = let q = rw none-left at (inv .rows) in omega (arith, q)
 
-    pub next-is : j + many + 1 ≡ j + subtreeNodes l (suc d) n
+    pub next-is : next + 1 ≡ j + subtreeNodes l (suc d) n
     next-is = omega (arith, nodes-all (inv .dealt), nodes-done)
 
-    pub all-fit : Fits w64 (many + 1)
-    all-fit = node-fits (many + 1) (omega (arith, next-is))
+    pub next-least : j ≤ next
+    next-least = omega (arith, nodes-done)
 
     abbrev inner : Inner
     inner = innerAt k b x large small (getD wide d 0) j r
@@ -389,7 +404,7 @@ module _ {l : Layout} {most wide recs : List ℕ} {depth n j r k b x : ℕ} {o�
           short = omega (arith, mul-le-mul-right (l .«node_size») ends, node .short);
         }
 
-    pub root-room : (j + many + 1) * l .«node_size» ≤ length o
+    pub root-room : (next + 1) * l .«node_size» ≤ length o
     root-room = rw (next-is, inv .long) (ready (inv .dealt) .room)
 
     -- The children's images, one after another, in the image that the node's writing began with.
@@ -397,7 +412,7 @@ module _ {l : Layout} {most wide recs : List ℕ} {depth n j r k b x : ℕ} {o�
       whole : List ℕ
       whole = images l recs d (twoSizes (k + 1) x (b + 1) b) j r
 
-      place : (j + many) * l .«node_size» ≡ j * l .«node_size» + length whole
+      place : next * l .«node_size» ≡ j * l .«node_size» + length whole
       unfolding whole
       place =
           let long = length-images (ready (inv .dealt)) recs refl in
@@ -413,7 +428,7 @@ module _ {l : Layout} {most wide recs : List ℕ} {depth n j r k b x : ℕ} {o�
           let after = images l recs d (rest 1) (j + subtreeNodes l d m) (r + m + 1) in
           let left = rw none-left at (inv .left) in
           let ends : (j + subtreeNodes l d m) * l .«node_size» ≡ j * l .«node_size» + length own = rw long (omega arith) in
-          sym (stored-nil o ((j + many) * l .«node_size»))
+          sym (stored-nil o (next * l .«node_size»))
           ∙ left
           ∙ rw (first .child .nodes, total-is, first .image, stored-turn o₀ _ _ own after (omega (arith, node .room, same)) ends, first-left (inv .dealt) e)
 
@@ -421,19 +436,19 @@ module _ {l : Layout} {most wide recs : List ℕ} {depth n j r k b x : ℕ} {o�
       unfolding whole
       image-all = rw (all-is (inv .dealt)) (image-is l recs d n (thick (ready (inv .dealt))) inner numbers)
 
-      pub root-done : {z : List ℕ} → z ≡ stored o ((j + many) * l .«node_size») (padded (l .«node_size») (innerBytes l recs inner))
-          → SubtreeWritten l recs o₀ z depth n j r (record { records = k; total = total + k; nodes = many + 1 })
+      pub root-done : {z : List ℕ} → z ≡ stored o (next * l .«node_size») (padded (l .«node_size») (innerBytes l recs inner))
+          → SubtreeWritten l recs o₀ z depth n j r (record { records = k; total = row - r - 1; nodes = next + 1 - j })
       root-done {z} written =
           let node = ready (inv .dealt) in
           let own = padded (l .«node_size») (innerBytes l recs inner) in
           let room : j * l .«node_size» ≤ length o₀ = omega (arith, node .room, same) in
-          subst (λ (u : ℕ). SubtreeWritten l recs o₀ z u n j r (record { records = k; total = total + k; nodes = many + 1 })) (sym (deeper (inv .dealt)))
+          subst (λ (u : ℕ). SubtreeWritten l recs o₀ z u n j r (record { records = k; total = row - r - 1; nodes = next + 1 - j })) (sym (deeper (inv .dealt)))
           (record {
             image = rw (written, children-done, stored-turn o₀ _ _ whole own room place, image-all);
             child =
                 record {
                   records = k-is (inv .dealt) ∙ sym (plan-count (capacities l) d n);
-                  total = rows-done ∙ sym (plan-size (capacities l) (suc d) n (thick node));
+                  total = omega (arith, row-is, plan-size (capacities l) (suc d) n (thick node));
                   nodes = omega (arith, next-is);
                 };
           })

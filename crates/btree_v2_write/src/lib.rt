@@ -45,7 +45,7 @@ fn write_planned(
     let wide = info.cum_max_nrec_size;
     let depth = plan.depth as usize;
     let n = request.record_count as usize;
-    let root = subtree::write_image(image, layout, records, &most, &wide, depth, n);
+    let root = subtree::write_image(image, layout, records, depth, n, &most, &wide);
     btree_v2_stamp::write_header(
         header,
         layout,

@@ -9,17 +9,17 @@ use btree_v2_stamp::Layout;
 
 // Writes the nodes of a subtree of n records, the first node being node j and the first record record r, and gives the subtree in numbers. The
 // children go first, one after another, and then the root, whose pointers are made of what the children's calls returned: the first child is
-// one of the larger size, where there is one, and the last one of the smaller.
+// one of the larger size, where there is one, and the last one of the smaller. The record and the node reached go on by what each returned.
 fn write_subtree(
     image: &mut [u8],
     layout: Layout,
     records: &[u8],
-    most: &[u64; 33],
-    wide: &[u8; 33],
     depth: usize,
     n: usize,
     j: usize,
     r: usize,
+    most: &[u64; 33],
+    wide: &[u8; 33],
 ) -> Child
     requires { ⌜ Ready layout (now most) (now wide) (length (now records)) (length (now image)) depth n j r ⌝ }
     ensures { λ x. ⌜ SubtreeWritten layout (now (records .entry)) (now (image .entry)) (now (image .exit)) depth n j r x ⌝ }
@@ -38,21 +38,20 @@ fn write_subtree(
     let base = dealt.base as usize;
     let extra = dealt.extra as usize;
     let first = node::share(base, extra, 0);
-    let large = write_subtree(image, layout, records, most, wide, under, first, j, r);
+    let large = write_subtree(image, layout, records, under, first, j, r, most, wide);
     let mut small = Child {
         records: 0,
         total: 0,
         nodes: 0,
     };
-    let mut total = large.total;
-    let mut nodes = large.nodes;
+    let mut next = j + large.nodes;
+    let mut row = r + (large.total as usize) + 1;
     let mut i = 1;
     while i <= kept {
         let m = node::share(base, extra, i);
-        let row = r + (total as usize) + i;
-        small = write_subtree(image, layout, records, most, wide, under, m, j + nodes, row);
-        total += small.total;
-        nodes += small.nodes;
+        small = write_subtree(image, layout, records, under, m, next, row, most, wide);
+        next += small.nodes;
+        row = row + (small.total as usize) + 1;
         i += 1;
     }
     let inner = Inner {
@@ -65,11 +64,11 @@ fn write_subtree(
         first_node: j,
         first_row: r,
     };
-    node::write_internal(image, layout, records, inner, j + nodes);
+    node::write_internal(image, layout, records, inner, next);
     Child {
         records: dealt.kept,
-        total: total + dealt.kept,
-        nodes: nodes + 1,
+        total: (row - r - 1) as u64,
+        nodes: next + 1 - j,
     }
 }
 
@@ -78,13 +77,13 @@ pub(crate) fn write_image(
     image: &mut [u8],
     layout: Layout,
     records: &[u8],
-    most: &[u64; 33],
-    wide: &[u8; 33],
     depth: usize,
     n: usize,
+    most: &[u64; 33],
+    wide: &[u8; 33],
 ) -> Child
     requires { ⌜ Ready layout (now most) (now wide) (length (now records)) (length (now image)) depth n 0 0 ⌝ }
     ensures { λ x. ⌜ SubtreeWritten layout (now (records .entry)) (now (image .entry)) (now (image .exit)) depth n 0 0 x ⌝ }
 {
-    write_subtree(image, layout, records, most, wide, depth, n, 0, 0)
+    write_subtree(image, layout, records, depth, n, 0, 0, most, wide)
 }

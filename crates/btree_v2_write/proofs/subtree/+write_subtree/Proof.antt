@@ -13,11 +13,14 @@ use Rattle.plan.proofs.deal.Reads as deal-reads
 use Rattle.btree_v2_write.proofs.subtree.+write_subtree.{statement}
 use Rattle.btree_v2_write.proofs.subtree.+write_subtree.Tie.{close}
 use native.Mathlib.Omega.{arith}
+use lib.ListN.{length}
 use borrow.Author.Needs.{needs}
-use Rattle.btree_v2_write.proofs.Subtrees.{leaf-room, leaf-fits, leaf-done, base-few, width-small, share-few, first-asked, loop-start, KidsLeft, place-fits, kid-ready, total-fits, nodes-fit, loop-turn, node-fits, next-is, root-fits, root-room, root-done}
+use Rattle.btree_v2_write.proofs.Subtrees.{leaf-room, leaf-fits, leaf-done, Dealt, base-few, kept-small, width-small, node-fits, row-fits, share-few, first-asked}
+use Rattle.btree_v2_write.proofs.Subtrees.{first-within, first-next-fits, loop-start, KidsLeft, kid-ready, kid-row, kid-next, loop-turn}
+use Rattle.btree_v2_write.proofs.Subtrees.{row-is, next-is, next-least, root-fits, root-room, root-done}
 
 abbrev μ-write-subtree : Measures 4 write-subtree-kinds.ps ℕ
-μ-write-subtree κs a = a .1 .1 .1 .1 .1 .0
+μ-write-subtree κs a = a .1 .1 .1 .0
 
 abbrev write-subtree-at : ℕ → In 4 write-subtree-kinds.ps
 write-subtree-at t = and 4 write-subtree-kinds.ps (is 4 write-subtree-kinds.ps μ-write-subtree t) write-subtree.Pre
@@ -26,15 +29,31 @@ abbrev write-subtree-below : ℕ → In 4 write-subtree-kinds.ps
 write-subtree-below t = and 4 write-subtree-kinds.ps (falls 4 write-subtree-kinds.ps _<_ μ-write-subtree t) write-subtree.Pre
 
 abbrev Inv-loop : write-subtree-lts.InvT-loop
-Inv-loop o₁ l recs most wide depth n j r under dealt k b x first large small₁ total₁ nodes₁ i₁ o small total nodes i =
-    KidsLeft l most wide recs o₁ depth n j r k b x large o small total nodes i
+Inv-loop o₁ l recs depth n j r most wide under dealt k b x first large small₁ next₁ row₁ i₁ o small next row i =
+    KidsLeft l most wide recs o₁ depth n j r k b x large o small next row i
 
 abbrev μ-loop : write-subtree-lts.MeasureT-loop
-μ-loop o₁ l recs most wide depth n j r under dealt k b x first large small₁ total₁ nodes₁ i₁ o small total nodes i = k + 1 - i
+μ-loop o₁ l recs depth n j r most wide under dealt k b x first large small₁ next₁ row₁ i₁ o small next row i = k + 1 - i
 
 abbrev claims : ℕ → write-subtree-lts.Claims
 claims t =
     (write-leaf-reads.Asked, write-leaf-reads.Learnt, deal-reads.Asked, deal-reads.Learnt, share-reads.Asked, share-reads.Learnt, write-subtree-below t, write-subtree.Post, write-internal-reads.Asked, write-internal-reads.Learnt)
+
+-- What is known once the records are dealt.
+module _ (t : ℕ) where
+  abbrev AfterDeal : Type 0
+  AfterDeal = write-subtree-lts.After-deal (claims t) (write-subtree-at t) write-subtree.Post Inv-loop μ-loop
+
+  abbrev DealtAt : AfterDeal → Type 0
+  DealtAt c =
+      let a = c .before .before .before .before .before .args in
+      let y = c .deal .result in
+      Dealt (a .layout) (a .most .now) (a .wide .now) (length (a .records .now)) (length (a .image .now)) (a .depth) (a .n) (a .j) (a .r) (y .kept) (y .base) (y .extra)
+
+  dealt : (c : AfterDeal) → DealtAt c
+  dealt c =
+      let kept = c .deal .ensures in
+      record { given = c .before .before .before .before .before .pre .1; pos = c .before .before .if1 .left; kept = kept .0; base = kept .1; extra = kept .2 }
 
 pub +write-subtree-spec : {M : Type 1} → statement M
 +write-subtree-spec =
@@ -56,43 +75,71 @@ pub +write-subtree-spec : {M : Type 1} → statement M
     (λ c κs. search share-few)
     (λ c κs. (omega arith, search first-asked))
     (λ c.
-    let begun = c .before .before in
-    let known = begun .before .before .before in
-    let kept = known .deal .ensures in
-    let start = known .before .before .before .before .before in
-    loop-start
-    (record { given = start .pre .1; pos = known .before .before .if1 .left; kept = kept .0; base = kept .1; extra = kept .2 })
-    (begun .before .before .share .ensures) (begun .write-subtree .kept .0) (begun .write-subtree .ensures))
+    let begun = c .before .before .before in
+    let known = dealt t (begun .before .before .before) in
+    first-next-fits known (begun .before .before .share .ensures) (begun .write-subtree .ensures))
+    (λ c.
+    let begun = c .before .before .before in
+    let known = dealt t (begun .before .before .before) in
+    row-fits known _ (omega (arith, first-within known (begun .before .before .share .ensures) (begun .write-subtree .ensures))))
+    (λ c.
+    let begun = c .before .before .before in
+    let known = dealt t (begun .before .before .before) in
+    row-fits known _ (omega (arith, first-within known (begun .before .before .share .ensures) (begun .write-subtree .ensures))))
+    (λ c.
+    let begun = c .before .before .before in
+    let known = dealt t (begun .before .before .before) in
+    loop-start known (begun .before .before .share .ensures) (begun .write-subtree .ensures) (begun .write-subtree .kept .0))
     (λ c κs. search base-few)
-    (λ c. search needs)
-    (λ c. search needs)
-    (λ c. search place-fits)
     (λ c κs. (omega arith, kid-ready (c .before .before .before .loop .inv) (c .before .before .loop-test .taken) (c .before .share2 .ensures)))
     (λ c.
+    let wrote = c .before .before .before .write-subtree2 .ensures in
     let turn = c .before .before .before .before .before in
-    total-fits (turn .before .before .loop .inv) (turn .before .loop-test .taken) (turn .share2 .ensures) (c .before .before .before .write-subtree2 .ensures))
+    let inv = turn .before .before .loop .inv in
+    node-fits (inv .dealt) _ (kid-next inv (turn .before .loop-test .taken) (turn .share2 .ensures) wrote))
     (λ c.
-    let turn = c .before .before .before .before .before .before in
-    nodes-fit (turn .before .before .loop .inv) (turn .before .loop-test .taken) (turn .share2 .ensures) (c .before .before .before .before .write-subtree2 .ensures))
-    (λ c. search needs)
+    let wrote = c .before .before .before .write-subtree2 .ensures in
+    let turn = c .before .before .before .before .before in
+    let inv = turn .before .before .loop .inv in
+    row-fits (inv .dealt) _ (omega (arith, kid-row inv (turn .before .loop-test .taken) (turn .share2 .ensures) wrote)))
+    (λ c.
+    let wrote = c .before .before .before .write-subtree2 .ensures in
+    let turn = c .before .before .before .before .before in
+    let inv = turn .before .before .loop .inv in
+    row-fits (inv .dealt) _ (omega (arith, kid-row inv (turn .before .loop-test .taken) (turn .share2 .ensures) wrote)))
+    (λ c. omega (arith, kept-small (c .before .before .before .before .before .before .before .loop .inv .dealt)))
     (λ c. search needs)
     (λ c.
-    let turn = c .before .before .before .before .before .before in
-    loop-turn (turn .before .before .loop .inv) (turn .before .loop-test .taken) (turn .share2 .ensures) (c .before .before .before .before .write-subtree2 .ensures))
+    let wrote = c .before .before .before .write-subtree2 .ensures in
+    let turn = c .before .before .before .before .before in
+    let inv = turn .before .before .loop .inv in
+    loop-turn inv (turn .before .loop-test .taken) (turn .share2 .ensures) wrote)
     (λ c. search needs)
     (λ c. width-small (c .before .before .loop .inv .dealt))
-    (λ c. place-fits (c .before .before .before .loop .inv))
     (λ c κs.
     let ended = c .before .before in
-    (root-fits (ended .before .loop .inv) (ended .loop-test .left), root-room (ended .before .loop .inv) (ended .loop-test .left)))
+    let inv = ended .before .loop .inv in
+    (root-fits inv (ended .loop-test .left), root-room inv (ended .loop-test .left)))
+    (λ c.
+    let ended = c .before .before .before .before .before in
+    let inv = ended .before .loop .inv in
+    omega (arith, row-is inv (ended .loop-test .left)))
+    (λ c.
+    let ended = c .before .before .before .before .before in
+    let inv = ended .before .loop .inv in
+    omega (arith, row-is inv (ended .loop-test .left)))
+    (λ c.
+    let ended = c .before .before .before .before .before in
+    let inv = ended .before .loop .inv in
+    node-fits (inv .dealt) _ (omega (arith, next-is inv (ended .loop-test .left))))
+    (λ c.
+    let ended = c .before .before .before .before .before in
+    let inv = ended .before .loop .inv in
+    omega (arith, next-least inv (ended .loop-test .left)))
     (λ c. search needs)
     (λ c.
-    let ended = c .before .before .before .before .before .before in
-    node-fits (ended .before .loop .inv) _ (omega (arith, next-is (ended .before .loop .inv) (ended .loop-test .left))))
-    (λ c. search needs)
-    (λ c.
-    let ended = c .before .before .before .before .before .before in
-    let begun = ended .before .before .before .before in
+    let ended = c .before .before .before .before .before in
+    let begun = ended .before .before .before .before .before in
     root-done
     (ended .before .loop .inv) (ended .loop-test .left) (begun .before .before .share .ensures)
-    (begun .write-subtree .kept .0) (begun .write-subtree .ensures) (c .before .before .before .write-internal .ensures)))
+    (begun .write-subtree .kept .0) (begun .write-subtree .ensures) (c .before .before .write-internal .ensures)))
