@@ -10,12 +10,12 @@ use mir.Syntax.{w64}
 use mir.Val.{Fits}
 use borrow.Author.Tests.{le-leb}
 use Rattle.numbers.specs.Numbers.{part}
-use Rattle.refusal.specs.Answer.{accepted, refused, orElse, verdictOf}
+use Rattle.refusal.specs.Answer.{accepted, refused, verdictOf}
 use Rattle.refusal.specs.declared.Refusal.{Refusal}
 use Rattle.refusal.specs.declared.Verdict.{Verdict}
 use Rattle.refusal.specs.declared.Verdict.the-variants.{Accepted, Refused}
 use Rattle.read_checks.specs.Tests.{needs, same, frontTest}
-use Rattle.read_checks.proofs.Checks.{bytes-there, bytes-missing}
+use Rattle.read_checks.proofs.Checks.{bytes-missing}
 use Rattle.read_checks.proofs.Passing as passing
 
 -- Numbers of 16 bits: their product.
@@ -31,21 +31,20 @@ module _ (n k : ℕ) (h : n < 2 ^ 16) (l : k < 2 ^ 16) where
   rows-end-fits = omega (arith, product-small)
 
 -- `check_front`: its two tests.
-module _ (file signature : List ℕ) (a : ℕ) (prefix : Verdict) (told : verdictOf prefix ≡ needs (a + 6) (length file) (accepted [])) where
-  pub front-short : (q : Refusal) → prefix ≡ Refused q → verdictOf prefix ≡ frontTest file signature a
+module _ (file signature : List ℕ) (a : ℕ) where
+  pub front-short : (prefix : Verdict) → verdictOf prefix ≡ needs (a + 6) (length file) (accepted []) → (q : Refusal) → prefix ≡ Refused q
+      → verdictOf prefix ≡ frontTest file signature a
   unfolding frontTest
-  front-short q e = rw e (sym (bytes-missing (a + 6) (length file) prefix told q e _))
+  front-short prefix told q e = rw e (sym (bytes-missing (a + 6) (length file) prefix told q e _))
 
-  module _ (begun : prefix ≡ Accepted) (t : Bool) (is : t ≡ same (part file a 4) signature) where
-    signed : frontTest file signature a ≡ orElse t (refused 2 []) (accepted [])
+  module _ (t : Bool) (is : t ≡ same (part file a 4) signature) where
+    pub front-right : t ≡ true → a + 6 ≤ length file → accepted [] ≡ frontTest file signature a
     unfolding frontTest
-    signed = rw (le-leb _ _ (bytes-there (a + 6) (length file) prefix told begun), is)
+    front-right e h = rw (le-leb _ _ h, ← is, e)
 
-    pub front-right : t ≡ true → accepted [] ≡ frontTest file signature a
-    front-right e = rw (signed, e)
-
-    pub front-wrong : t ≡ false → refused 2 [] ≡ frontTest file signature a
-    front-wrong e = rw (signed, e)
+    pub front-wrong : t ≡ false → a + 6 ≤ length file → refused 2 [] ≡ frontTest file signature a
+    unfolding frontTest
+    front-wrong e h = rw (le-leb _ _ h, ← is, e)
 
 -- Where `check_front` accepts, the first 6 bytes of the node are there.
 module _ (file signature : List ℕ) (a : ℕ) (front : Verdict) (told : verdictOf front ≡ frontTest file signature a) (begun : front ≡ Accepted) where
