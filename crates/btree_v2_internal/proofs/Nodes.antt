@@ -75,41 +75,44 @@ module _ (file : List ℕ) (z : Sizes) (x : Node) (front : Verdict) (told : verd
   internal-body e body rest = rw (first-accepts front _ _ told e) rest
 
 -- `check_body`: the tests, in their order, of the part of the file from the node on.
-module _ (file : List ℕ) (z : Sizes) (x : Node) (behind : List ℕ) (is : behind ≡ part file (x .address) (length file)) where
+module _ (file : List ℕ) (z : Sizes) (x : Node) where
   abbrev rowsEnd : ℕ
   rowsEnd = recordsEnd (z .«record_size») (x .records)
 
   abbrev answer : Answer
   answer = internalBody file (z .«record_size») (z .«offset_size») (pointerSizeBy z) (x .address) (x .records)
 
-  behind-length : length file - x .address ≡ length behind
-  behind-length = rw is (simp (length-take, length-drop) (omega arith))
+  abbrev Behind : List ℕ → Type 0
+  Behind rest = rest ≡ part file (x .address) (length file)
 
-  pub body-records : (rows : Verdict) → verdictOf rows ≡ needs rowsEnd (length behind) (accepted []) → (q : Refusal) → rows ≡ Refused q
-      → verdictOf rows ≡ answer
+  behind-length : (rest : List ℕ) → Behind rest → length file - x .address ≡ length rest
+  behind-length rest is = rw is (simp (length-take, length-drop) (omega arith))
+
+  pub body-records : (rest : List ℕ) (rows : Verdict) → verdictOf rows ≡ needs rowsEnd (length rest) (accepted []) → (q : Refusal)
+      → rows ≡ Refused q → Behind rest → verdictOf rows ≡ answer
   unfolding internalBody
-  body-records rows told q e = rw (behind-length, e) (sym (bytes-missing rowsEnd (length behind) rows told q e _))
+  body-records rest rows told q e is = rw (behind-length rest is, e) (sym (bytes-missing rowsEnd (length rest) rows told q e _))
 
-  module _ (w : ℕ) (wide : Wide z w) (pointers : Verdict)
-      (told : verdictOf pointers ≡ needs (rowsEnd + (x .records + 1) * w) (length behind) (accepted [])) where
-    pub body-pointers : (q : Refusal) → pointers ≡ Refused q → rowsEnd ≤ length behind → verdictOf pointers ≡ answer
+  module _ (rest : List ℕ) (w : ℕ) (pointers : Verdict)
+      (told : verdictOf pointers ≡ needs (rowsEnd + (x .records + 1) * w) (length rest) (accepted [])) where
+    pub body-pointers : (q : Refusal) → pointers ≡ Refused q → rowsEnd ≤ length rest → Behind rest → Wide z w → verdictOf pointers ≡ answer
     unfolding internalBody
-    body-pointers q e h =
-        rw (behind-length, le-leb _ _ h, ← wide .0, e)
-        (sym (bytes-missing (rowsEnd + (x .records + 1) * w) (length behind) pointers told q e _))
+    body-pointers q e h is wide =
+        rw (behind-length rest is, le-leb _ _ h, ← wide .0, e)
+        (sym (bytes-missing (rowsEnd + (x .records + 1) * w) (length rest) pointers told q e _))
 
-    module _ (all : pointers ≡ Accepted) (s : Bool) (size : s ≡ fieldSize (z .«offset_size»)) where
-      sized : answer ≡ orElse s (refused 4 (z .«offset_size» ∷ [])) (accepted [])
+    module _ (s : Bool) (size : s ≡ fieldSize (z .«offset_size»)) where
+      sized : pointers ≡ Accepted → Behind rest → Wide z w → answer ≡ orElse s (refused 4 (z .«offset_size» ∷ [])) (accepted [])
       unfolding internalBody
-      sized =
-          let h = bytes-there (rowsEnd + (x .records + 1) * w) (length behind) pointers told all in
-          rw (behind-length, le-leb rowsEnd (length behind) (omega arith), ← wide .0, le-leb _ _ h, ← size)
+      sized all is wide =
+          let h = bytes-there (rowsEnd + (x .records + 1) * w) (length rest) pointers told all in
+          rw (behind-length rest is, le-leb rowsEnd (length rest) (omega arith), ← wide .0, le-leb _ _ h, ← size)
 
-      pub body-fine : s ≡ true → accepted [] ≡ answer
-      body-fine e = rw (sized, e)
+      pub body-fine : s ≡ true → pointers ≡ Accepted → Behind rest → Wide z w → accepted [] ≡ answer
+      body-fine e all is wide = rw (sized all is wide, e)
 
-      pub body-size : s ≡ false → refused 4 (z .«offset_size» ∷ []) ≡ answer
-      body-size e = rw (sized, e)
+      pub body-size : s ≡ false → pointers ≡ Accepted → Behind rest → Wide z w → refused 4 (z .«offset_size» ∷ []) ≡ answer
+      body-size e all is wide = rw (sized all is wide, e)
 
 module _ (file : List ℕ) (z : Sizes) (x : Node) where
   -- `read_pointer`: the fields of pointer i. No file reaches a place that is held.
@@ -117,17 +120,17 @@ module _ (file : List ℕ) (z : Sizes) (x : Node) where
   unfolding num
   at-held p k small = rw (part-held file p k small)
 
-  module _ (i w : ℕ) (wide : Wide z w) where
-    place : x .address + (recordsEnd (z .«record_size») (x .records) + i * w) ≡ pointerAt file z x i
+  module _ (i w : ℕ) where
+    place : Wide z w → x .address + (recordsEnd (z .«record_size») (x .records) + i * w) ≡ pointerAt file z x i
     unfolding pointerAt pointerPlace pointerWidth sourceBy
-    place = rw (wide .0) (omega arith)
+    place wide = rw (wide .0) (omega arith)
 
-    pub pointer-is : (at next a n : ℕ) → length file < 2 ^ 64 → at ≡ held (x .address + (recordsEnd (z .«record_size») (x .records) + i * w))
-        → next ≡ held (at + z .«offset_size») → a ≡ num file at (min (z .«offset_size») 8) → n ≡ num file next (min (z .«count_size») 8)
-        → (a ≡ addressAt file z x i) × (n % 65536 ≡ recordsAt file z x i)
+    pub pointer-is : (at next a n : ℕ) → a ≡ num file at (min (z .«offset_size») 8) → n ≡ num file next (min (z .«count_size») 8)
+        → next ≡ held (at + z .«offset_size») → at ≡ held (x .address + (recordsEnd (z .«record_size») (x .records) + i * w))
+        → Wide z w → length file < 2 ^ 64 → (a ≡ addressAt file z x i) × (n % 65536 ≡ recordsAt file z x i)
     unfolding addressAt recordsAt
-    pointer-is at next a n small hat hnext ha hn =
-        (rw (ha, hat, at-held _ _ small, place), rw (hn, hnext, hat, held-add, at-held _ _ small, place))
+    pointer-is at next a n ha hn hnext hat wide small =
+        (rw (ha, hat, at-held _ _ small, place wide), rw (hn, hnext, hat, held-add, at-held _ _ small, place wide))
 
   -- Where no field has more than 8 bytes, these are the address and the count of a walk.
   pub fields-walked : (i : ℕ) → z .«offset_size» ≤ 8 → z .«count_size» ≤ 8

@@ -18,7 +18,10 @@ check-body-spec =
     (λ c κs. search needs)
     (λ c. search needs)
     (λ c. search needs)
-    (λ c. search body-records)
+    (λ c.
+    let entry = c .before .before .before .before .before in
+    let a = entry .before .before .args in
+    body-records (a .file .now) (a .sizes) (a .node) (entry .part .result .now) (c .before .before .ensure-len .result) (c .before .before .ensure-len .ensures) _ (c .enum-told2 .given .1) (search needs))
     (λ c κs. search needs)
     (λ c. search rows-end-fits)
     (λ c. search needs)
@@ -27,7 +30,16 @@ check-body-spec =
     (λ c κs. search needs)
     (λ c. search needs)
     (λ c. search needs)
-    (λ c. search (body-pointers, bytes-there))
+    (λ c.
+    let entry = c .before .before .before .before .before .before .before .before .before .before in
+    let a = entry .before .before .args in
+    let wide = c .before .before .before .before .pointer-size in
+    let pointers = c .before .before .ensure-len2 in
+    body-pointers (a .file .now) (a .sizes) (a .node) (entry .part .result .now) (wide .result) (pointers .result) (pointers .ensures) _ (c .enum-told4 .given .1) (search bytes-there) (search needs) (search needs))
     (λ c κs. search needs)
     (λ c. search body-fine)
-    (λ c. search body-size))
+    (λ c.
+    let entry = c .before .before .before .before .before .before .before .before .before .before .before .before in
+    let a = entry .before .before .args in
+    let pointers = c .before .before .before .before .ensure-len2 in
+    body-size (a .file .now) (a .sizes) (a .node) (entry .part .result .now) _ (pointers .result) (pointers .ensures) _ (c .before .is-field-size .ensures) (c .if1 .left) (search needs) (search needs) (search needs)))
