@@ -1,42 +1,51 @@
 -- The tests of an internal node, one law for each way out; what a node that passes them has; and the child that a pointer leads to.
 use mathlib.Core.Path.{_≡_, sym}
-use mathlib.Core.Bool.{Bool, true, false, not}
+use mathlib.Core.Bool.{Bool, true, false}
 use mathlib.Core.List.{List, [], _∷_}
 use Prim.Native.Nat.{ℕ, _+_, _-_, _*_, _%_, _^_, _≤_, _<_, min}
 use native.Mathlib.Nat.{mul-le-mul, min-eq-left}
 use native.Mathlib.Omega.{arith}
-use lib.ListN.{length}
+use lib.ListN.{length, length-take, length-drop}
 use mir.Syntax.{w64}
 use mir.Val.{Fits}
 use borrow.Author.Tests.{le-leb}
 use Rattle.numbers.specs.Numbers.{part, num, held, fieldSize}
 use Rattle.numbers.proofs.Copying.{part-held}
-use Rattle.numbers.proofs.Lists.{length-part}
 use Rattle.numbers.proofs.Numbers.{held-add}
 use Rattle.refusal.specs.declared.Refusal.{Refusal}
 use Rattle.refusal.specs.Answer.{Answer, accepted, refused, orElse, verdictOf}
 use Rattle.format.specs.Bytes.{internalSignature}
-use Rattle.btree_v2_internal.specs.Internal.{Source, pointerWidth, pointerPlace, childAddress, childRecords, internalTest}
-use Rattle.read_checks.specs.Tests.{needs, same}
-use Rattle.read_checks.proofs.Passing.{passed, there}
+use Rattle.btree_v2_internal.specs.Internal.{Source, pointerWidth, pointerPlace, childAddress, childRecords, internalBody, internalTest}
+use Rattle.read_checks.specs.Tests.{needs, same, recordsEnd, frontTest}
+use Rattle.read_checks.proofs.Passing.{passed, passed-both, there, front-there, front-then}
 use Rattle.refusal.specs.declared.Verdict.{Verdict}
 use Rattle.refusal.specs.declared.Verdict.the-variants.{Accepted, Refused}
-use Rattle.read_checks.proofs.Checks.{bytes-there, bytes-missing, test-holds, test-fails}
-use Rattle.read_checks.proofs.Nodes.{product-small, front-there}
+use Rattle.read_checks.proofs.Checks.{bytes-there, bytes-missing, first-refuses, first-accepts}
+use Rattle.read_checks.proofs.Nodes.{product-small}
 use Rattle.btree_v2_internal.specs.declared.Sizes.{Sizes}
 use Rattle.btree_v2_internal.specs.declared.Node.{Node}
-use Rattle.btree_v2_internal.specs.Pointers.{sourceBy, pointerAt, addressAt, recordsAt}
+use Rattle.btree_v2_internal.specs.Pointers.{sourceBy, pointerSizeBy, pointerAt, addressAt, recordsAt}
 
--- What an internal node that passes has: its first 6 bytes, its records, and offsets of one of the sizes.
-pub internal-there : (s : Source) (d a n : ℕ) → internalTest s d a n ≡ accepted []
-    → (a + 6 ≤ length (s .file)) × (6 + n * s .rs ≤ length (s .file) - a) × (fieldSize (s .ow) ≡ true)
-unfolding internalTest
-internal-there s d a n passes =
-    let front = there (a + 6) (length (s .file)) [] _ passes in
-    let signed = passed (same (part (s .file) a 4) internalSignature) 2 [] [] _ (front .1) in
-    let rows = there (6 + n * s .rs) (length (s .file) - a) [] _ (signed .1) in
-    let pointers = there (6 + n * s .rs + (n + 1) * pointerWidth s d) (length (s .file) - a) [] _ (rows .1) in
-    (front .0, rows .0, passed (fieldSize (s .ow)) 4 (s .ow ∷ []) [] _ (pointers .1) .0)
+-- An internal node's tests in one row.
+module _ (s : Source) (d a n : ℕ) where
+  pub internal-test-is : internalTest s d a n
+      ≡ needs (a + 6) (length (s .file))
+      (orElse (same (part (s .file) a 4) internalSignature) (refused 2 [])
+      (needs (6 + n * s .rs) (length (s .file) - a)
+      (needs (6 + n * s .rs + (n + 1) * pointerWidth s d) (length (s .file) - a)
+      (orElse (fieldSize (s .ow)) (refused 4 (s .ow ∷ [])) (accepted [])))))
+  unfolding internalTest internalBody
+  internal-test-is = rw front-then
+
+  -- What an internal node that passes has: its first 6 bytes, its records, and offsets of one of the sizes.
+  pub internal-there : internalTest s d a n ≡ accepted []
+      → (a + 6 ≤ length (s .file)) × (6 + n * s .rs ≤ length (s .file) - a) × (fieldSize (s .ow) ≡ true)
+  unfolding internalTest internalBody
+  internal-there passes =
+      let both = passed-both (frontTest (s .file) internalSignature a) _ [] passes in
+      let rows = there (6 + n * s .rs) (length (s .file) - a) [] _ (both .2) in
+      let pointers = there (6 + n * s .rs + (n + 1) * pointerWidth s d) (length (s .file) - a) [] _ (rows .1) in
+      (front-there (s .file) internalSignature a _ (both .1), rows .0, passed (fieldSize (s .ow)) 4 (s .ow ∷ []) [] _ (pointers .1) .0)
 
 -- Pointers of w bytes, at most one more than a node may have records; and those before pointer i, with the node's records.
 module _ (w : ℕ) (narrow : w < 1024) where
@@ -51,85 +60,77 @@ module _ (w : ℕ) (narrow : w < 1024) where
 
 -- The bytes of a pointer, as `pointer_size` gives them.
 abbrev Wide : Sizes → ℕ → Type 0
-Wide z w = (w ≡ z .«offset_size» + z .«count_size» + z .«total_size») × (w < 1024)
+Wide z w = (w ≡ pointerSizeBy z) × (w < 1024)
 
+-- `check_internal`: the front, and the body where the front is accepted.
+module _ (file : List ℕ) (z : Sizes) (x : Node) (front : Verdict) (told : verdictOf front ≡ frontTest file internalSignature (x .address)) where
+  pub internal-front : (q : Refusal) → front ≡ Refused q → verdictOf front ≡ internalTest (sourceBy file z) 0 (x .address) (x .records)
+  unfolding internalTest sourceBy
+  internal-front = first-refuses front _ _ told
+
+  pub internal-body : front ≡ Accepted → (body : Verdict)
+      → verdictOf body ≡ internalBody file (z .«record_size») (z .«offset_size») (pointerSizeBy z) (x .address) (x .records)
+      → verdictOf body ≡ internalTest (sourceBy file z) 0 (x .address) (x .records)
+  unfolding internalTest pointerWidth sourceBy
+  internal-body e body rest = rw (first-accepts front _ _ told e) rest
+
+-- `check_body`: the tests, in their order, of the part of the file from the node on.
 module _ (file : List ℕ) (z : Sizes) (x : Node) where
-  -- The bytes of the node's records, the file from the node on, and what is to be answered.
-  abbrev rowBytes : ℕ
-  rowBytes = x .records * z .«record_size»
-
-  abbrev behind : List ℕ
-  behind = part file (x .address) (length file - x .address)
+  abbrev rowsEnd : ℕ
+  rowsEnd = recordsEnd (z .«record_size») (x .records)
 
   abbrev answer : Answer
-  answer = internalTest (sourceBy file z) 0 (x .address) (x .records)
+  answer = internalBody file (z .«record_size») (z .«offset_size») (pointerSizeBy z) (x .address) (x .records)
 
-  -- The tests, in their order. The last two shortages are of the part from the node on.
-  module _ (front : Verdict) (told : verdictOf front ≡ needs (x .address + 6) (length file) (accepted [])) where
-    pub internal-front : (q : Refusal) → front ≡ Refused q → verdictOf front ≡ answer
-    unfolding internalTest sourceBy
-    internal-front q e = rw e (sym (bytes-missing (x .address + 6) (length file) front told q e _))
+  abbrev Behind : List ℕ → Type 0
+  Behind rest = rest ≡ part file (x .address) (length file)
 
-    module _ (begun : front ≡ Accepted) where
-      begins : x .address + 6 ≤ length file
-      begins = front-there file (x .address) front told begun
+  behind-length : (rest : List ℕ) → Behind rest → length file - x .address ≡ length rest
+  behind-length rest is = rw is (simp (length-take, length-drop) (omega arith))
 
-      part-length : length behind ≡ length file - x .address
-      part-length = length-part file (x .address) (length file - x .address) (omega (arith, begins))
+  pub body-records : (rest : List ℕ) (rows : Verdict) → verdictOf rows ≡ needs rowsEnd (length rest) (accepted []) → (q : Refusal)
+      → rows ≡ Refused q → Behind rest → verdictOf rows ≡ answer
+  unfolding internalBody
+  body-records rest rows told q e is = rw (behind-length rest is, e) (sym (bytes-missing rowsEnd (length rest) rows told q e _))
 
-      module _ (t : Bool) (is : t ≡ same (part file (x .address) 4) internalSignature) where
-        pub internal-signature : not t ≡ true → refused 2 [] ≡ answer
-        unfolding internalTest sourceBy
-        internal-signature n = rw (le-leb _ _ begins, test-fails t _ is n)
+  module _ (rest : List ℕ) (w : ℕ) (pointers : Verdict)
+      (told : verdictOf pointers ≡ needs (rowsEnd + (x .records + 1) * w) (length rest) (accepted [])) where
+    pub body-pointers : (q : Refusal) → pointers ≡ Refused q → rowsEnd ≤ length rest → Behind rest → Wide z w → verdictOf pointers ≡ answer
+    unfolding internalBody
+    body-pointers q e h is wide =
+        rw (behind-length rest is, le-leb _ _ h, ← wide .0, e)
+        (sym (bytes-missing (rowsEnd + (x .records + 1) * w) (length rest) pointers told q e _))
 
-        module _ (signed : not t ≡ false) (rows : Verdict) (counted : verdictOf rows ≡ needs (6 + rowBytes) (length behind) (accepted [])) where
-          pub internal-rows : (q : Refusal) → rows ≡ Refused q → verdictOf rows ≡ answer
-          unfolding internalTest sourceBy
-          internal-rows q e =
-              rw (le-leb _ _ begins, test-holds t _ is signed, e, ← part-length)
-              (sym (bytes-missing (6 + rowBytes) (length behind) rows counted q e _))
+    module _ (s : Bool) (size : s ≡ fieldSize (z .«offset_size»)) where
+      sized : pointers ≡ Accepted → Behind rest → Wide z w → answer ≡ orElse s (refused 4 (z .«offset_size» ∷ [])) (accepted [])
+      unfolding internalBody
+      sized all is wide =
+          let h = bytes-there (rowsEnd + (x .records + 1) * w) (length rest) pointers told all in
+          rw (behind-length rest is, le-leb rowsEnd (length rest) (omega arith), ← wide .0, le-leb _ _ h, ← size)
 
-          module _ (whole : rows ≡ Accepted) (w : ℕ) (wide : Wide z w) (pointers : Verdict)
-              (listed : verdictOf pointers ≡ needs (6 + rowBytes + (x .records + 1) * w) (length behind) (accepted [])) where
-            rows-in : 6 + rowBytes ≤ length file - x .address
-            rows-in = rw (← part-length) (bytes-there _ _ rows counted whole)
+      pub body-fine : s ≡ true → pointers ≡ Accepted → Behind rest → Wide z w → accepted [] ≡ answer
+      body-fine e all is wide = rw (sized all is wide, e)
 
-            pub internal-pointers : (q : Refusal) → pointers ≡ Refused q → verdictOf pointers ≡ answer
-            unfolding internalTest pointerWidth sourceBy
-            internal-pointers q e =
-                rw (le-leb _ _ begins, test-holds t _ is signed, le-leb _ _ rows-in, e, ← part-length, ← wide .0)
-                (sym (bytes-missing (6 + rowBytes + (x .records + 1) * w) (length behind) pointers listed q e _))
+      pub body-size : s ≡ false → pointers ≡ Accepted → Behind rest → Wide z w → refused 4 (z .«offset_size» ∷ []) ≡ answer
+      body-size e all is wide = rw (sized all is wide, e)
 
-            module _ (all : pointers ≡ Accepted) (s : Bool) (size : s ≡ fieldSize (z .«offset_size»)) where
-              pointers-in : 6 + rowBytes + (x .records + 1) * w ≤ length file - x .address
-              pointers-in = rw (← part-length) (bytes-there _ _ pointers listed all)
-
-              sized : answer ≡ orElse s (refused 4 (z .«offset_size» ∷ [])) (accepted [])
-              unfolding internalTest pointerWidth sourceBy
-              sized = rw (le-leb _ _ begins, test-holds t _ is signed, le-leb _ _ rows-in, ← wide .0, le-leb _ _ pointers-in, ← size)
-
-              pub internal-fine : s ≡ true → accepted [] ≡ answer
-              internal-fine h = rw (sized, h)
-
-              pub internal-size : s ≡ false → refused 4 (z .«offset_size» ∷ []) ≡ answer
-              internal-size h = rw (sized, h)
-
+module _ (file : List ℕ) (z : Sizes) (x : Node) where
   -- `read_pointer`: the fields of pointer i. No file reaches a place that is held.
   at-held : (p k : ℕ) → length file < 2 ^ 64 → num file (held p) k ≡ num file p k
   unfolding num
   at-held p k small = rw (part-held file p k small)
 
-  module _ (i w : ℕ) (wide : Wide z w) where
-    place : x .address + (6 + rowBytes + i * w) ≡ pointerAt file z x i
+  module _ (i w : ℕ) where
+    place : Wide z w → x .address + (recordsEnd (z .«record_size») (x .records) + i * w) ≡ pointerAt file z x i
     unfolding pointerAt pointerPlace pointerWidth sourceBy
-    place = rw (wide .0) (omega arith)
+    place wide = rw (wide .0) (omega arith)
 
-    pub pointer-is : (at next a n : ℕ) → length file < 2 ^ 64 → at ≡ held (x .address + (6 + rowBytes + i * w))
-        → next ≡ held (at + z .«offset_size») → a ≡ num file at (min (z .«offset_size») 8) → n ≡ num file next (min (z .«count_size») 8)
-        → (a ≡ addressAt file z x i) × (n % 65536 ≡ recordsAt file z x i)
+    pub pointer-is : (at next a n : ℕ) → a ≡ num file at (min (z .«offset_size») 8) → n ≡ num file next (min (z .«count_size») 8)
+        → next ≡ held (at + z .«offset_size») → at ≡ held (x .address + (recordsEnd (z .«record_size») (x .records) + i * w))
+        → Wide z w → length file < 2 ^ 64 → (a ≡ addressAt file z x i) × (n % 65536 ≡ recordsAt file z x i)
     unfolding addressAt recordsAt
-    pointer-is at next a n small hat hnext ha hn =
-        (rw (ha, hat, at-held _ _ small, place), rw (hn, hnext, hat, held-add, at-held _ _ small, place))
+    pointer-is at next a n ha hn hnext hat wide small =
+        (rw (ha, hat, at-held _ _ small, place wide), rw (hn, hnext, hat, held-add, at-held _ _ small, place wide))
 
   -- Where no field has more than 8 bytes, these are the address and the count of a walk.
   pub fields-walked : (i : ℕ) → z .«offset_size» ≤ 8 → z .«count_size» ≤ 8

@@ -2,11 +2,19 @@
 -- and document 01, "Collecting".
 use Prim.Native.Nat.{ℕ, _+_, _-_, _*_, _%_}
 use mathlib.Core.List.{List, [], _∷_}
-use Rattle.numbers.specs.Numbers.{num, fieldSize, part}
 use lib.ListN.{length}
-use Rattle.refusal.specs.Answer.{Answer, accepted, refused, orElse}
+use Rattle.numbers.specs.Numbers.{num, fieldSize}
+use Rattle.refusal.specs.Answer.{Answer, accepted, refused, orElse, onAccepted}
 use Rattle.format.specs.Bytes.{internalSignature}
-use Rattle.read_checks.specs.Tests.{needs, same}
+use Rattle.read_checks.specs.Tests.{needs, recordsEnd, frontTest}
+
+-- The body of an internal node at a with n records of rs bytes and one pointer more, each of w bytes, ow of them the child's address:
+-- records, pointers, offset size. The figures of both shortages are of the part of the file from a on.
+unfoldable pub internalBody : List ℕ → ℕ → ℕ → ℕ → ℕ → ℕ → Answer
+internalBody file rs ow w a n =
+    needs (recordsEnd rs n) (length file - a)
+    (needs (recordsEnd rs n + (n + 1) * w) (length file - a)
+    (orElse (fieldSize ow) (refused 4 (ow ∷ [])) (accepted [])))
 
 -- What the walk goes by: the file, the record size, the offset size, the width of a record count, and the width of the total of a subtree
 -- by the level of its root.
@@ -33,13 +41,7 @@ module _ (s : Source) where
   unfoldable pub childRecords : ℕ → ℕ
   childRecords p = num (s .file) (p + s .ow) (s .cw) % 65536
 
-module _ (s : Source) where
-  -- An internal node at a with n records whose children have level d: 6 bytes, signature, records, pointers, offset size. The figures of the
-  -- last two shortages are of the part of the file from a on.
+  -- An internal node at a with n records whose children have level d: its front and its body.
   unfoldable pub internalTest : ℕ → ℕ → ℕ → Answer
   internalTest d a n =
-      needs (a + 6) (length (s .file))
-      (orElse (same (part (s .file) a 4) internalSignature) (refused 2 [])
-      (needs (6 + n * s .rs) (length (s .file) - a)
-      (needs (6 + n * s .rs + (n + 1) * pointerWidth s d) (length (s .file) - a)
-      (orElse (fieldSize (s .ow)) (refused 4 (s .ow ∷ [])) (accepted [])))))
+      onAccepted (frontTest (s .file) internalSignature a) (internalBody (s .file) (s .rs) (s .ow) (pointerWidth d) a n)

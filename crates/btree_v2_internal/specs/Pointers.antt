@@ -11,6 +11,10 @@ unfoldable pub sourceBy : List ℕ → Sizes → Source
 sourceBy file z =
     record { file = file; rs = z .«record_size»; ow = z .«offset_size»; cw = z .«count_size»; tw = λ d. z .«total_size» }
 
+-- The bytes of a pointer to a child.
+abbrev pub pointerSizeBy : Sizes → ℕ
+pointerSizeBy z = z .«offset_size» + z .«count_size» + z .«total_size»
+
 module _ (file : List ℕ) (z : Sizes) (x : Node) (i : ℕ) where
   -- The place of pointer i.
   unfoldable pub pointerAt : ℕ

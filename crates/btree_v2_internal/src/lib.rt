@@ -1,10 +1,10 @@
-// Internal nodes: their tests, and the child that a pointer leads to.
+// Internal nodes: their tests, of the front, which every node has, and of the body; and the child that a pointer leads to.
 
 ghost use mathlib.Core.Path.{_≡_};
-ghost use Prim.Native.Nat.{_+_, _<_};
+ghost use Prim.Native.Nat.{_<_};
 ghost use Rattle.refusal.specs.Answer.{verdictOf};
-ghost use Rattle.btree_v2_internal.specs.Internal.{internalTest};
-ghost use Rattle.btree_v2_internal.specs.Pointers.{sourceBy, addressAt, recordsAt};
+ghost use Rattle.btree_v2_internal.specs.Internal.{internalBody, internalTest};
+ghost use Rattle.btree_v2_internal.specs.Pointers.{sourceBy, pointerSizeBy, addressAt, recordsAt};
 use refusal::Refusal;
 use refusal::Verdict;
 
@@ -26,7 +26,7 @@ pub struct Node {
 
 // The bytes of a pointer to a child.
 fn pointer_size(sizes: Sizes) -> u64
-    ensures { λ r. ⌜ (r ≡ sizes .«offset_size» + sizes .«count_size» + sizes .«total_size») × (r < 1024) ⌝ }
+    ensures { λ r. ⌜ (r ≡ pointerSizeBy sizes) × (r < 1024) ⌝ }
 {
     (sizes.offset_size as u64) + (sizes.count_size as u64) + (sizes.total_size as u64)
 }
@@ -35,22 +35,26 @@ fn pointer_size(sizes: Sizes) -> u64
 pub fn check_internal(file: &[u8], sizes: Sizes, node: Node) -> Verdict
     ensures { λ r. ⌜ verdictOf r ≡ internalTest (sourceBy (now (file .entry)) sizes) 0 (node .address) (node .records) ⌝ }
 {
-    let front = read_checks::ensure_len(file, node.address, 6);
+    let front = read_checks::check_front(file, node.address, b'I', b'N');
     let Verdict::Accepted = front else {
         return front;
     };
-    let at = node.address as usize;
-    if !read_checks::has_signature(file, at, b'I', b'N') {
-        return Verdict::Refused(Refusal::InvalidBTreeV2Signature);
-    }
-    let rest = &file[at..];
+    check_body(file, sizes, node)
+}
+
+// The tests after those of the front: the records and the pointers are there, and offsets have one of the sizes.
+pub fn check_body(file: &[u8], sizes: Sizes, node: Node) -> Verdict
+    ensures { λ r. ⌜ verdictOf r ≡ internalBody (now (file .entry)) (sizes .«record_size») (sizes .«offset_size») (pointerSizeBy sizes) (node .address) (node .records) ⌝ }
+{
+    let rest = numbers::part(file, node.address, file.len() as u64);
     let bytes = (node.records as u64) * (sizes.record_size as u64);
-    let records = read_checks::ensure_len(rest, 6, bytes);
+    let records = read_checks::ensure_len(rest, read_checks::PREFIX_SIZE, bytes);
     let Verdict::Accepted = records else {
         return records;
     };
     let wide = pointer_size(sizes);
-    let pointers = read_checks::ensure_len(rest, 6 + bytes, ((node.records as u64) + 1) * wide);
+    let end = read_checks::PREFIX_SIZE + bytes;
+    let pointers = read_checks::ensure_len(rest, end, ((node.records as u64) + 1) * wide);
     let Verdict::Accepted = pointers else {
         return pointers;
     };
@@ -65,7 +69,7 @@ pub fn read_pointer(file: &[u8], sizes: Sizes, node: Node, i: u16) -> Node
     ensures { λ r. ⌜ (r .address ≡ addressAt (now (file .entry)) sizes node i) × (r .records ≡ recordsAt (now (file .entry)) sizes node i) ⌝ }
 {
     let bytes = (node.records as u64) * (sizes.record_size as u64);
-    let before = 6 + bytes + (i as u64) * pointer_size(sizes);
+    let before = read_checks::PREFIX_SIZE + bytes + (i as u64) * pointer_size(sizes);
     let at = numbers::saturating_add(node.address, before);
     let next = numbers::saturating_add(at, sizes.offset_size as u64);
     let address = numbers::read_le(file, at as usize, sizes.offset_size as usize);

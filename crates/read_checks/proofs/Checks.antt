@@ -15,7 +15,7 @@ use Rattle.numbers.specs.Numbers.{part, num, held}
 use Rattle.numbers.proofs.Lists.{part-cons}
 use Rattle.numbers.proofs.Numbers.{num-lt}
 use Rattle.refusal.specs.declared.Refusal.{Refusal}
-use Rattle.refusal.specs.Answer.{Answer, accepted, refused, refusalOf, orElse, verdictOf}
+use Rattle.refusal.specs.Answer.{Answer, accepted, refused, refusalOf, orElse, verdictOf, onAccepted}
 use Rattle.refusal.proofs.Answers.{refused-is}
 use Rattle.read_checks.specs.Tests.{needs, same, checksumTest}
 use Rattle.read_checks.proofs.Outcomes.{same-false, checksum-equal, checksum-differs}
@@ -38,6 +38,14 @@ module _ (v : Verdict) (t : Bool) (number : ℕ) (values : List ℕ)
       by : (b : Bool) → refusalOf r ≡ orElse b (refused number values) (accepted []) → orElse b (refused number values) rest ≡ refusalOf r
       by true h = let f = refused-is r .2 in cc
       by false h = cc
+
+-- A test and what goes on where it accepts.
+module _ (v : Verdict) (first next : Answer) (told : verdictOf v ≡ first) where
+  pub first-refuses : (r : Refusal) → v ≡ Refused r → verdictOf v ≡ onAccepted first next
+  first-refuses r e = rw (← told, e, refused-is r .2)
+
+  pub first-accepts : v ≡ Accepted → onAccepted first next ≡ next
+  first-accepts e = rw (← told, e)
 
 -- The same of `ensure_len` and of `check_checksum`.
 module _ (end length : ℕ) (v : Verdict) (told : verdictOf v ≡ needs end length (accepted [])) where

@@ -1,5 +1,6 @@
--- What the readers of leaves and of internal nodes share: the size of a node's records, and its first 6 bytes.
-use mathlib.Core.Path.{_≡_}
+-- What the readers of leaves and of internal nodes share: the size of a node's records, and the tests of its front.
+use mathlib.Core.Path.{_≡_, sym, ap, _∙_}
+use mathlib.Core.Bool.{Bool, true, false}
 use mathlib.Core.List.{List, []}
 use Prim.Native.Nat.{ℕ, _+_, _-_, _*_, _^_, _≤_, _<_}
 use native.Mathlib.Nat.{mul-le-mul}
@@ -7,11 +8,15 @@ use native.Mathlib.Omega.{arith}
 use lib.ListN.{length}
 use mir.Syntax.{w64}
 use mir.Val.{Fits}
-use Rattle.refusal.specs.Answer.{accepted, verdictOf}
-use Rattle.read_checks.specs.Tests.{needs}
+use borrow.Author.Tests.{le-leb}
+use Rattle.numbers.specs.Numbers.{part}
+use Rattle.refusal.specs.Answer.{accepted, refused, verdictOf}
+use Rattle.refusal.specs.declared.Refusal.{Refusal}
 use Rattle.refusal.specs.declared.Verdict.{Verdict}
-use Rattle.refusal.specs.declared.Verdict.the-variants.{Accepted}
-use Rattle.read_checks.proofs.Checks.{bytes-there}
+use Rattle.refusal.specs.declared.Verdict.the-variants.{Accepted, Refused}
+use Rattle.read_checks.specs.Tests.{needs, same, frontTest}
+use Rattle.read_checks.proofs.Checks.{bytes-missing}
+use Rattle.read_checks.proofs.Passing as passing
 
 -- Numbers of 16 bits: their product.
 module _ (n k : ℕ) (h : n < 2 ^ 16) (l : k < 2 ^ 16) where
@@ -25,13 +30,26 @@ module _ (n k : ℕ) (h : n < 2 ^ 16) (l : k < 2 ^ 16) where
   pub rows-end-fits : Fits w64 (6 + n * k)
   rows-end-fits = omega (arith, product-small)
 
--- The first 6 bytes of a node at a are there.
-module _ (file : List ℕ) (a : ℕ) (front : Verdict) (told : verdictOf front ≡ needs (a + 6) (length file) (accepted [])) (begun : front ≡ Accepted) where
-  pub front-there : a + 6 ≤ length file
-  front-there = bytes-there (a + 6) (length file) front told begun
+-- `check_front`: its two tests.
+module _ (file signature : List ℕ) (a : ℕ) where
+  pub front-short : (prefix : Verdict) → verdictOf prefix ≡ needs (a + 6) (length file) (accepted []) → (q : Refusal) → prefix ≡ Refused q
+      → verdictOf prefix ≡ frontTest file signature a
+  unfolding frontTest
+  front-short prefix told q e = rw e (sym (bytes-missing (a + 6) (length file) prefix told q e _))
 
-  pub node-in : a ≤ length file
-  node-in = omega (arith, front-there)
+  module _ (t : Bool) (is : t ≡ same (part file a 4) signature) where
+    pub front-right : t ≡ true → a + 6 ≤ length file → accepted [] ≡ frontTest file signature a
+    unfolding frontTest
+    front-right e h = rw (le-leb _ _ h, ← is, e)
+
+    pub front-wrong : t ≡ false → a + 6 ≤ length file → refused 2 [] ≡ frontTest file signature a
+    unfolding frontTest
+    front-wrong e h = rw (le-leb _ _ h, ← is, e)
+
+-- Where `check_front` accepts, the first 6 bytes of the node are there.
+module _ (file signature : List ℕ) (a : ℕ) (front : Verdict) (told : verdictOf front ≡ frontTest file signature a) (begun : front ≡ Accepted) where
+  pub front-there : a + 6 ≤ length file
+  front-there = passing.front-there file signature a [] (sym told ∙ ap verdictOf begun)
 
   pub front-fits : length file < 2 ^ 64 → Fits w64 (a + 6)
   front-fits h = omega (arith, front-there)

@@ -1,4 +1,4 @@
-// Tests that the header reader, the leaf's look and the collector share; and the verdict of a test.
+// Tests that the header reader, the leaf's look and the collector share.
 
 ghost use mathlib.Core.Path.{_≡_};
 ghost use mathlib.Core.List.{[], _∷_};
@@ -6,7 +6,7 @@ ghost use Prim.Native.Nat.{_+_, _-_};
 ghost use lib.ListN.{length};
 ghost use Rattle.numbers.specs.Numbers.{part};
 ghost use Rattle.refusal.specs.Answer.{accepted, verdictOf};
-ghost use Rattle.read_checks.specs.Tests.{needs, same, checksumTest};
+ghost use Rattle.read_checks.specs.Tests.{needs, same, frontTest, checksumTest};
 use refusal::Refusal;
 use refusal::Verdict;
 
@@ -45,6 +45,23 @@ pub fn has_signature(data: &[u8], at: usize, third: u8, fourth: u8) -> bool
         return false;
     }
     data[at + 3] == fourth
+}
+
+// The bytes before a node's records: signature, version, type.
+pub const PREFIX_SIZE: u64 = 6;
+
+// The front of a node: its first 6 bytes are there, and its signature is `BT` and these two letters.
+pub fn check_front(file: &[u8], address: u64, third: u8, fourth: u8) -> Verdict
+    ensures { λ r. ⌜ verdictOf r ≡ frontTest (now (file .entry)) (66 ∷ 84 ∷ third ∷ fourth ∷ []) address ⌝ }
+{
+    let prefix = ensure_len(file, address, PREFIX_SIZE);
+    let Verdict::Accepted = prefix else {
+        return prefix;
+    };
+    if has_signature(file, address as usize, third, fourth) {
+        return Verdict::Accepted;
+    }
+    Verdict::Refused(Refusal::InvalidBTreeV2Signature)
 }
 
 // Refusal 6 where the number in the four bytes at `end` is not the checksum of the bytes from `from` to there; each is of as many bytes

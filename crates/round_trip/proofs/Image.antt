@@ -17,12 +17,13 @@ use Rattle.plan.specs.Tree.{Kids, last, more, Tree, sumKids, between, count, si
 use Rattle.plan.proofs.Trees.{AllKids, Everywhere, everywhere-root}
 use Rattle.format.specs.Bytes.{Form, leafSignature, internalSignature, summed, padded, pointerBytes, address, rows, leafBytes, pointer, pointers, ownRows, internalBytes, kidsImage, image}
 use Rattle.btree_v2_collect.specs.Walk.{Counts, fine, Tests, nodeRun}
-use Rattle.btree_v2_internal.specs.Internal.{Source, pointerWidth, pointerPlace, childAddress, childRecords, internalTest}
-use Rattle.btree_v2_leaf.specs.Leaf.{leafTest}
+use Rattle.btree_v2_internal.specs.Internal.{Source, pointerWidth, pointerPlace, childAddress, childRecords, internalBody, internalTest}
+use Rattle.btree_v2_leaf.specs.Leaf.{leafBody, leafTest}
 use Rattle.btree_v2_collect.specs.Collect.{collectTests}
 use Rattle.numbers.proofs.Standing.{Stand, stand-left, stand-split, stand-end, stand-num}
 use Rattle.btree_v2_collect.proofs.Puts.{sum}
-use Rattle.read_checks.proofs.Passing.{same-refl}
+use Rattle.read_checks.specs.Tests.{recordsEnd}
+use Rattle.read_checks.proofs.Passing.{front-passes}
 use Rattle.round_trip.proofs.Summed.{checksum-passes}
 use Rattle.format.proofs.Lengths.{pointerLength, Fit, Room, length-rows, rows-add, length-pointer, length-own, length-internal, length-image, length-children}
 use Rattle.btree_v2_collect.proofs.Sound.{between-one, ChildSound, ChildrenSound, Sound, childrenBytes, treeBytes, treeTally, puts-node}
@@ -65,21 +66,24 @@ module _ (g : Form) (start : ℕ) (recs file : List ℕ) where
   -- Collecting's tests are such.
   module _ (sum-fits : (xs : List ℕ) → lookup3 xs < 256 ^ 4) (offset : fieldSize (g .ow) ≡ true) where
     leaf-passes : (n r a : ℕ) → Room g start recs r n → Stand file a (summed (leafBytes g start recs n r)) → leafTest file (g .rs) a n ≡ accepted []
-    unfolding leafTest leafBytes
+    unfolding leafTest leafBody leafBytes
     leaf-passes n r a h st =
         let s = node-stands leafSignature (rows g start recs r n) a refl st in
         let l = length-rows g start recs r n h in
-        let e : a + 6 + n * g .rs ≡ a + length (leafBytes g start recs n r) = omega arith in
-        rw (le-leb (a + 6) (length file) (omega arith), s .begins, same-refl leafSignature, le-leb (a + 6 + n * g .rs) (length file) (omega arith), le-leb (a + 10 + n * g .rs) (length file) (omega arith), e)
+        let e : a + recordsEnd (g .rs) n ≡ a + length (leafBytes g start recs n r) = omega arith in
+        let there : a + recordsEnd (g .rs) n + 4 ≤ length file = omega arith in
+        rw (front-passes file leafSignature a (omega arith) (s .begins), le-leb (a + recordsEnd (g .rs) n) (length file) (omega arith), le-leb _ _ there, e)
         (checksum-passes sum-fits file (leafBytes g start recs n r) a st (accepted []))
 
     internal-passes : (d : ℕ) (ts : Kids (Tree d)) (j r a : ℕ) → Room g start recs r (sumKids (size d) ts + between ts)
         → Stand file a (summed (internalBytes g start recs d ts j r)) → internalTest source d a (between ts) ≡ accepted []
-    unfolding internalTest internalBytes pointerWidth
+    unfolding internalTest internalBody internalBytes pointerWidth
     internal-passes d ts j r a h st =
         let s = node-stands internalSignature (ownRows g start recs d ts r ++ pointers g start recs d ts j) a refl st in
         let l = length-internal g start recs d ts j r h in
-        rw (le-leb (a + 6) (length file) (omega arith), s .begins, same-refl internalSignature, le-leb (6 + between ts * g .rs) (length file - a) (omega arith), le-leb (6 + between ts * g .rs + (between ts + 1) * pointerLength g d) (length file - a) (omega arith), offset)
+        let end = recordsEnd (g .rs) (between ts) in
+        let there : end + (between ts + 1) * pointerLength g d ≤ length file - a = omega arith in
+        rw (front-passes file internalSignature a (omega arith) (s .begins), le-leb end (length file - a) (omega arith), le-leb _ _ there, offset)
 
     pub collecting-passes : Passes (collectTests source)
     unfolding collectTests

@@ -16,10 +16,10 @@ use Rattle.format.specs.Bytes.{summed, padded, pointerBytes, address, rows, lea
 use Rattle.format.specs.Request.{Request, formOf, nodesOf, imageOf, rootOf, rootRecordsOf, headerOf}
 use Rattle.write_checks.specs.Writing.{writeAnswer, written, headerExit, imageExit}
 use Rattle.btree_v2_collect.specs.Walk.{putRecord, putRecords, leafRun, childRun, innerRun, childrenRun, nodeRun}
-use Rattle.btree_v2_internal.specs.Internal.{pointerWidth, pointerPlace, childAddress, childRecords, internalTest}
-use Rattle.read_checks.specs.Tests.{same, checksumTest}
+use Rattle.btree_v2_internal.specs.Internal.{pointerWidth, pointerPlace, childAddress, childRecords, internalBody, internalTest}
+use Rattle.read_checks.specs.Tests.{same, frontTest, checksumTest}
 use Rattle.btree_v2_header.specs.Header.{Header, headerAt, parsed}
-use Rattle.btree_v2_leaf.specs.Leaf.{leafTest}
+use Rattle.btree_v2_leaf.specs.Leaf.{leafBody, leafTest}
 use Rattle.btree_v2_collect.specs.Collect.{collectTests, sourceOf, collected, runCells, runOutput}
 
 -- w bytes as a hexadecimal number shows them, and nodes of w bytes one after another.
@@ -232,8 +232,8 @@ unfolding computed le unle num leastFrom width fieldSize stored cells leafCapaci
     totalWidth nodeCapacity sumKids between count size below nodes leaves taken dealt children kidsOf planTree anyOf thin
     leastLevel planDepth emptyLevel planned planFigures planAnswer summed padded pointerBytes address rows leafBytes pointer pointers ownRows internalBytes
     kidsImage image headerBytes over formOf nodesOf imageOf rootOf rootRecordsOf headerOf writeAnswer written headerExit imageExit putRecord
-    putRecords pointerWidth pointerPlace childAddress childRecords leafRun childRun innerRun childrenRun nodeRun same checksumTest headerAt
-    parsed leafTest internalTest collectTests sourceOf collected runCells dump dumps rampFrom ramp lent writing summing refusing reading
+    putRecords pointerWidth pointerPlace childAddress childRecords leafRun childRun innerRun childrenRun nodeRun same frontTest checksumTest headerAt
+    parsed leafBody leafTest internalBody internalTest collectTests sourceOf collected runCells dump dumps rampFrom ramp lent writing summing refusing reading
     collecting request header threeHeader threeImage fourHeader fourImage eightHeader eightImage eightFile twoHeader twoImage noneHeader
     noneImage writes reads collects disagreeing
 agree = refl

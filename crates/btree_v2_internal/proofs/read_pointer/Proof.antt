@@ -25,4 +25,7 @@ read-pointer-spec =
     (λ c. search needs)
     (λ c κs. search needs)
     (λ c. search needs)
-    (λ c. let entry = c .before .before .before .before .before .before .before .before .before .before .before in pointer-is (entry .args .file .now) (entry .args .sizes) (entry .args .node) (entry .args .i) _ (c .before .before .before .before .before .before .before .pointer-size .ensures) _ _ _ _ (search needs) (c .before .before .before .before .before .before .saturating-add .ensures) (c .before .before .before .before .saturating-add2 .ensures) (c .before .before .read-le .ensures) (c .read-le2 .ensures)))
+    (λ c.
+    let a = c .before .before .before .before .before .before .before .before .before .before .before .args in
+    let at = c .before .before .before .before .before .before in
+    pointer-is (a .file .now) (a .sizes) (a .node) (a .i) _ (at .saturating-add .result) _ _ _ (c .before .before .read-le .ensures) (c .read-le2 .ensures) (search needs) (at .saturating-add .ensures) (search needs) (search needs)))

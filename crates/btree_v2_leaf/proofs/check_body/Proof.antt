@@ -1,0 +1,23 @@
+-- `check_body` tests the records, then the checksum.
+use Rattle.btree_v2_leaf.proofs.Leaves.{rows-fit, body-short, body-unchecked, body-checked}
+use Rattle.read_checks.proofs.Checks.{bytes-there}
+use Rattle.read_checks.proofs.Nodes.{product-fits, rows-end-fits}
+use borrow.Author.Needs.{needs}
+use Rattle.btree_v2_leaf.proofs.check_body.Statement.{statement}
+use Rattle.btree_v2_leaf.proofs.check_body.Tie as tie
+
+pub check-body-spec : {M : Type 1} → statement M
+check-body-spec =
+    tie.close
+    (tie.spec
+    (λ c. search product-fits)
+    (λ c. search rows-end-fits)
+    (λ c κs. search needs)
+    (λ c. search needs)
+    (λ c. search needs)
+    (λ c. let a = c .before .before .before .before .args in body-short (a .file .now) (a .record-size) (a .address) (a .count) (c .before .before .ensure-len .result) (c .before .before .ensure-len .ensures) _ (c .enum-told2 .given .1))
+    (λ c. search (rows-fit, bytes-there))
+    (λ c. search bytes-there)
+    (λ c. let a = c .before .before .before .before .before .args in body-unchecked (a .file .now) (a .record-size) (a .address) (a .count) (c .if1 .taken) (search bytes-there))
+    (λ c κs. search needs)
+    (λ c. let a = c .before .before .before .before .before .before .args in body-checked (a .file .now) (a .record-size) (a .address) (a .count) (c .check-checksum .result) (c .check-checksum .ensures) (c .before .if1 .left) (search bytes-there)))
