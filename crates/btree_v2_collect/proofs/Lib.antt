@@ -4,6 +4,7 @@ mod Holding
 mod Nodes
 mod Putting
 mod Steps
+pub mod Walking
 pub mod Outcomes
 pub mod Fronts
 pub mod Puts

@@ -16,7 +16,8 @@ use Rattle.btree_v2_collect.specs.declared.collect.TreeSizes.{TreeSizes}
 use Rattle.btree_v2_internal.specs.declared.Node.{Node}
 use Rattle.btree_v2_collect.specs.Collecting.{countsOf, runOf, heldCounts, heldRun, sourceAt, testsAt, Readable, Within, Walked, nodeWalk, innerWalk, childrenWalk}
 use Rattle.refusal.proofs.Answers.{refused-is}
-use Rattle.btree_v2_collect.proofs.Holding.{Alike, from-held, records-held, alike-after, count-alike, puts-alike, inner-alike, children-alike, node-alike}
+use Rattle.btree_v2_collect.proofs.Holding.{Alike, from-held, records-held, alike-after, count-alike, puts-alike, inner-alike, children-alike}
+use Rattle.btree_v2_collect.proofs.Walking.{Step}
 
 -- Counting a leaf or an internal node puts nothing out.
 pub leaf-within : (z : TreeSizes) (t t1 o : List ℕ) → heldCounts (countsOf t1) ≡ heldCounts (oneLeaf (countsOf t)) → Within z t o → Within z t1 o
@@ -27,10 +28,10 @@ pub internal-within : (z : TreeSizes) (t t1 o : List ℕ) → heldCounts (counts
 internal-within z t t1 o e h = rw (records-held (oneInternal (countsOf t)) (countsOf t1) e) h
 
 -- A step, and what follows it.
-module _ (next : Counts → List ℕ → Run) (alike : Alike next) {z : TreeSizes} {x : Run} {v : Verdict} {t o : List ℕ} (walked : Walked z x v t o) where
+module _ {next : Step} (alike : Alike next) {z : TreeSizes} {x : Run} {v : Verdict} {t o : List ℕ} (walked : Walked z x v t o) where
   after : heldRun (andThen x next) ≡ heldRun (andThen (runOf v t o) next)
   after =
-      sym (alike-after next alike x) ∙ ap (λ y. heldRun (andThen y next)) (sym (walked .ends)) ∙ alike-after next alike (runOf v t o)
+      sym (alike-after alike x) ∙ ap (λ y. heldRun (andThen y next)) (sym (walked .ends)) ∙ alike-after alike (runOf v t o)
 
   go-on : v ≡ Accepted → heldRun (andThen x next) ≡ heldRun (next (countsOf t) o)
   go-on e = after ∙ rw e
@@ -119,7 +120,7 @@ module _ (file : List ℕ) (z : TreeSizes) where
     unfolding nodeWalk nodeRun leafRun collectTests sourceAt
     leaf-reads t1 v1 t2 o1 e counts =
         walked-as
-        (from-held (putRecords s (x .records) (x .address + 6)) (puts-alike s (x .records) (x .address + 6)) (oneLeaf (countsOf t)) (countsOf t1) o counts
+        (from-held (puts-alike s (x .records) (x .address + 6)) (oneLeaf (countsOf t)) (countsOf t1) o counts
         ∙ ap heldRun (sym (test-passes _ v (countsOf t) o _ tested e)))
 
   -- A node of level d.
@@ -150,7 +151,7 @@ module _ (file : List ℕ) (z : TreeSizes) where
         node-reads t1 v1 t2 o1 counts walked =
             let f : n + 1 - 1 ≡ n = omega arith in
             walked-as
-            (from-held (childrenWalk file z (d - 1) a n n 0) (children-alike s tests (d - 1) a n _ (node-alike s tests (d - 1)) n 0) (oneInternal (countsOf t)) (countsOf t1) o counts
+            (from-held (children-alike s tests (d - 1) a n n 0) (oneInternal (countsOf t)) (countsOf t1) o counts
             ∙ ap heldRun (sym (internal-is ∙ test-passes _ v (countsOf t) o _ refl e)))
             (rw f at walked)
 
@@ -190,25 +191,25 @@ module _ (file : List ℕ) (z : TreeSizes) where
 
       record-alike : Alike record-between
       unfolding innerWalk
-      record-alike = inner-alike s tests d a n _ (node-alike s tests d) (i + left / 2 - 1)
+      record-alike = inner-alike s tests d a n (i + left / 2 - 1)
 
       half-alike : Alike second-half
       unfolding childrenWalk
-      half-alike = children-alike s tests d a n _ (node-alike s tests d) (left - left / 2 - 1) (i + left / 2)
+      half-alike = children-alike s tests d a n (left - left / 2 - 1) (i + left / 2)
 
       pub first-stops : (q : Refusal) → v ≡ Refused q → Reads v t1 o1
       first-stops q e =
-          walked-as (ap heldRun halves) (hand-up second-half half-alike (hand-up record-between record-alike first q e) q e)
+          walked-as (ap heldRun halves) (hand-up half-alike (hand-up record-alike first q e) q e)
 
       module _ (e : v ≡ Accepted) (w : Verdict) (t2 o2 : List ℕ) (put : Walked z (record-between (countsOf t1) o1) w t2 o2) where
         two : Walked z (andThen (childrenWalk file z d a n (left / 2 - 1) i (countsOf t) o) record-between) w t2 o2
-        two = walked-as (sym (go-on record-between record-alike first e)) put
+        two = walked-as (sym (go-on record-alike first e)) put
 
         pub record-stops : (q : Refusal) → w ≡ Refused q → Reads w t2 o2
-        record-stops q h = walked-as (ap heldRun halves) (hand-up second-half half-alike two q h)
+        record-stops q h = walked-as (ap heldRun halves) (hand-up half-alike two q h)
 
         pub second-reads : w ≡ Accepted → (u : Verdict) (t3 o3 : List ℕ) → Walked z (second-half (countsOf t2) o2) u t3 o3 → Reads u t3 o3
-        second-reads h u t3 o3 = walked-as (sym (go-on second-half half-alike two h) ∙ ap heldRun halves)
+        second-reads h u t3 o3 = walked-as (sym (go-on half-alike two h) ∙ ap heldRun halves)
 
   -- Record i of an internal node: one record put out, and counted.
   module _ (d : ℕ) (x : Node) (i : ℕ) (t o : List ℕ) (v : Verdict) (t1 o1 : List ℕ)
@@ -221,13 +222,13 @@ module _ (file : List ℕ) (z : TreeSizes) where
         (then-same (putRecord s (x .address + 6 + i * z .«record_size») (countsOf t) o) _ (λ c o. refl))
 
     pub inner-stops : (q : Refusal) → v ≡ Refused q → Walked z (innerWalk file z d (x .address) (x .records) i (countsOf t) o) v t1 o1
-    inner-stops q e = walked-as (ap heldRun inner-is) (hand-up (λ c o. fine (oneInner c) o) count-alike put q e)
+    inner-stops q e = walked-as (ap heldRun inner-is) (hand-up count-alike put q e)
 
     pub inner-puts : (t2 : List ℕ) → v ≡ Accepted → heldCounts (countsOf t2) ≡ heldCounts (oneInner (countsOf t1))
         → Walked z (innerWalk file z d (x .address) (x .records) i (countsOf t) o) Accepted t2 o1
     inner-puts t2 e counts =
         record {
-          ends = ap (λ c. fine c o1) counts ∙ sym (sym (ap heldRun inner-is) ∙ go-on (λ c o. fine (oneInner c) o) count-alike put e);
+          ends = ap (λ c. fine c o1) counts ∙ sym (sym (ap heldRun inner-is) ∙ go-on count-alike put e);
           within = rw (records-held (oneInner (countsOf t1)) (countsOf t2) counts) (put .within);
         }
 
