@@ -10,3 +10,5 @@ pub mod Fronts
 pub mod Puts
 pub mod Sound
 pub mod Balance
+pub mod InFile
+pub mod Places

@@ -7,9 +7,8 @@ use native.Mathlib.Numerals.{add-one}
 use native.Mathlib.Omega.{arith}
 use lib.ListN.{length, getD, drop, replicate, length-append, length-replicate, getD-replicate, List·getD-append, drop-of-length-le}
 use lib.Seq.{drop-cons, getD-append-add}
-use Rattle.plan.specs.Tree.{last, more, sumKids, between}
+use Rattle.plan.specs.Tree.{last, more, sumKids, between, AllKids}
 use Rattle.plan.specs.Planned.{kidsOf}
-use Rattle.plan.proofs.Trees.{AllKids}
 
 -- The sum of f over a list.
 unfoldable pub sumOf : (ℕ → ℕ) → List ℕ → ℕ
