@@ -14,7 +14,7 @@ use Rattle.refusal.specs.declared.Verdict.{Verdict}
 use Rattle.refusal.specs.declared.Verdict.the-variants.{Accepted, Refused}
 use Rattle.btree_v2_collect.specs.declared.collect.TreeSizes.{TreeSizes}
 use Rattle.btree_v2_internal.specs.declared.Node.{Node}
-use Rattle.btree_v2_collect.specs.Collecting.{countsOf, runOf, heldCounts, heldRun, sourceAt, testsAt, Readable, Within, Walked, nodeWalk, innerWalk, childrenWalk}
+use Rattle.btree_v2_collect.specs.Collecting.{countsOf, runOf, heldCounts, heldRun, sourceAt, testsAt, Readable, Within, ChildrenLeft, Walked, nodeWalk, innerWalk, childrenWalk}
 use Rattle.refusal.proofs.Answers.{refused-is}
 use Rattle.btree_v2_collect.proofs.Holding.{Alike, from-held, records-held, alike-after, count-alike, puts-alike, inner-alike, children-alike}
 use Rattle.btree_v2_collect.proofs.Walking.{Step}
@@ -100,6 +100,13 @@ module _ (s : Source) (tests : Tests) (d a n : ℕ) (node : ℕ → ℕ → Coun
       (fun-ext (λ c1. fun-ext (children-split m k (i + 1) c1)))
       ∙ then-four (run m (i + 1)) (between (i + 1 + m)) (run k (i + 1 + m + 1)) (between i) (childRun s tests d a n node i c o))
 
+-- Depth and children left, as one number: a node has at most 65,536 children, and a half of them is less than all.
+abbrev pub falling : ℕ → ℕ → ℕ
+falling depth left = depth * 65537 + left
+
+pub first-falls : (k d left : ℕ) → falling d left ≡ k → 0 < left → falling d (left / 2) < k
+first-falls k d left e some = omega arith
+
 module _ (file : List ℕ) (z : TreeSizes) where
   abbrev s : Source
   s = sourceAt file z
@@ -172,44 +179,63 @@ module _ (file : List ℕ) (z : TreeSizes) where
         rw e (walked-as (ap heldRun same) walked)
 
     -- More: the first half, the record between and the second half.
-    module _ (some : 0 < left) (more : left ≡ 1 → ⊥) (v : Verdict) (t1 o1 : List ℕ)
-        (first : Walked z (childrenWalk file z d a n (left / 2 - 1) i (countsOf t) o) v t1 o1) where
-      abbrev record-between : Counts → List ℕ → Run
-      record-between = innerWalk file z d a n (i + left / 2 - 1)
+    abbrev first-half : Run
+    first-half = childrenWalk file z d a n (left / 2 - 1) i (countsOf t) o
 
-      abbrev second-half : Counts → List ℕ → Run
-      second-half = childrenWalk file z d a n (left - left / 2 - 1) (i + left / 2)
+    abbrev record-between : Counts → List ℕ → Run
+    record-between = innerWalk file z d a n (i + left / 2 - 1)
 
-      halves : andThen (andThen (childrenWalk file z d a n (left / 2 - 1) i (countsOf t) o) record-between) second-half
-          ≡ childrenWalk file z d a n (left - 1) i (countsOf t) o
-      unfolding childrenWalk innerWalk
-      halves =
-          let e : left - 1 ≡ left / 2 - 1 + suc (left - left / 2 - 1) = omega arith in
-          let f : i + left / 2 - 1 ≡ i + (left / 2 - 1) = omega arith in
-          let g : i + left / 2 ≡ i + (left / 2 - 1) + 1 = omega arith in
-          rw (e, f, g) (sym (children-split s tests d a n (nodeRun s tests d) (left / 2 - 1) (left - left / 2 - 1) i (countsOf t) o))
+    abbrev second-half : Counts → List ℕ → Run
+    second-half = childrenWalk file z d a n (left - left / 2 - 1) (i + left / 2)
 
-      record-alike : Alike record-between
-      unfolding innerWalk
-      record-alike = inner-alike s tests d a n (i + left / 2 - 1)
+    halves : 0 < left → (left ≡ 1 → ⊥)
+        → andThen (andThen first-half record-between) second-half ≡ childrenWalk file z d a n (left - 1) i (countsOf t) o
+    unfolding childrenWalk innerWalk
+    halves some more =
+        let e : left - 1 ≡ left / 2 - 1 + suc (left - left / 2 - 1) = omega arith in
+        let f : i + left / 2 - 1 ≡ i + (left / 2 - 1) = omega arith in
+        let g : i + left / 2 ≡ i + (left / 2 - 1) + 1 = omega arith in
+        rw (e, f, g) (sym (children-split s tests d a n (nodeRun s tests d) (left / 2 - 1) (left - left / 2 - 1) i (countsOf t) o))
 
-      half-alike : Alike second-half
-      unfolding childrenWalk
-      half-alike = children-alike s tests d a n (left - left / 2 - 1) (i + left / 2)
+    record-alike : Alike record-between
+    unfolding innerWalk
+    record-alike = inner-alike s tests d a n (i + left / 2 - 1)
 
-      pub first-stops : (q : Refusal) → v ≡ Refused q → Reads v t1 o1
-      first-stops q e =
-          walked-as (ap heldRun halves) (hand-up half-alike (hand-up record-alike first q e) q e)
+    half-alike : Alike second-half
+    unfolding childrenWalk
+    half-alike = children-alike s tests d a n (left - left / 2 - 1) (i + left / 2)
 
-      module _ (e : v ≡ Accepted) (w : Verdict) (t2 o2 : List ℕ) (put : Walked z (record-between (countsOf t1) o1) w t2 o2) where
-        two : Walked z (andThen (childrenWalk file z d a n (left / 2 - 1) i (countsOf t) o) record-between) w t2 o2
-        two = walked-as (sym (go-on record-alike first e)) put
+    pub first-stops : 0 < left → (left ≡ 1 → ⊥) → (v : Verdict) (t1 o1 : List ℕ) → Walked z first-half v t1 o1 → (q : Refusal) → v ≡ Refused q
+        → Reads v t1 o1
+    first-stops some more v t1 o1 first q e =
+        walked-as (ap heldRun (halves some more))
+        (hand-up half-alike (hand-up record-alike first q e) q e)
 
-        pub record-stops : (q : Refusal) → w ≡ Refused q → Reads w t2 o2
-        record-stops q h = walked-as (ap heldRun halves) (hand-up half-alike two q h)
+    module _ (l : List ℕ) where
+      pub first-asked : ChildrenLeft file z l d a n i left t o → (left ≡ 1 → ⊥) → ChildrenLeft file z l d a n i (left / 2) t o
+      first-asked h more =
+          record {
+            readable = h .readable;
+            passed = h .passed;
+            among = omega (arith, h .among);
+            some = omega (arith, h .some);
+            within = h .within;
+          }
 
-        pub second-reads : w ≡ Accepted → (u : Verdict) (t3 o3 : List ℕ) → Walked z (second-half (countsOf t2) o2) u t3 o3 → Reads u t3 o3
-        second-reads h u t3 o3 = walked-as (sym (go-on half-alike two h) ∙ ap heldRun halves)
+      -- Children are left after x, a part of their walk that is accepted.
+      pub record PartRead (x : Run) : Type 0 where
+        pub asked : ChildrenLeft file z l d a n i left t o
+        pub more : left ≡ 1 → ⊥
+        pub tally : List ℕ
+        pub output : List ℕ
+        pub walked : Walked z x Accepted tally output
+
+      -- The first half is read; and the record between is put out.
+      abbrev pub FirstRead : Type 0
+      FirstRead = PartRead first-half
+
+      abbrev pub RecordPut : Type 0
+      RecordPut = PartRead (andThen first-half record-between)
 
   -- Record i of an internal node: one record put out, and counted.
   module _ (d : ℕ) (x : Node) (i : ℕ) (t o : List ℕ) (v : Verdict) (t1 o1 : List ℕ)
@@ -231,6 +257,50 @@ module _ (file : List ℕ) (z : TreeSizes) where
           ends = ap (λ c. fine c o1) counts ∙ sym (sym (ap heldRun inner-is) ∙ go-on count-alike put e);
           within = rw (records-held (oneInner (countsOf t1)) (countsOf t2) counts) (put .within);
         }
+
+-- From where the first half is read on.
+module _ {file : List ℕ} {z : TreeSizes} {d a n i left : ℕ} {t o l : List ℕ} where
+  -- Record j, put out after the first half, is the one between.
+  module _ (first : FirstRead file z d a n i left t o l) (j : ℕ) (w : Verdict) (t2 o2 : List ℕ)
+      (put : Walked z (innerWalk file z d a n j (countsOf (first .tally)) (first .output)) w t2 o2) (between : j ≡ i + left / 2 - 1) where
+    pub two : Walked z (andThen (first-half file z d a n i left t o) (record-between file z d a n i left t o)) w t2 o2
+    two = walked-as (sym (go-on (record-alike file z d a n i left t o) (first .walked) refl)) (rw between at put)
+
+    pub record-stops : (q : Refusal) → w ≡ Refused q → Reads file z d a n i left t o w t2 o2
+    record-stops q e =
+        walked-as (ap heldRun (halves file z d a n i left t o (first .asked .some) (first .more)))
+        (hand-up (half-alike file z d a n i left t o) two q e)
+
+    abbrev pub record-put : w ≡ Accepted → RecordPut file z d a n i left t o l
+    record-put e =
+        record {
+          asked = first .asked;
+          more = first .more;
+          tally = t2;
+          output = o2;
+          walked = walked-accepted z _ w t2 o2 e two;
+        }
+
+  module _ (put : RecordPut file z d a n i left t o l) where
+    pub second-asked : ChildrenLeft file z l d a n (i + left / 2) (left - left / 2) (put .tally) (put .output)
+    second-asked =
+        record {
+          readable = put .asked .readable;
+          passed = put .asked .passed;
+          among = omega (arith, put .asked .among);
+          some = omega (arith, put .asked .some, put .more);
+          within = put .walked .within;
+        }
+
+    pub second-falls : {k : ℕ} → falling d left ≡ k → falling d (left - left / 2) < k
+    second-falls e = omega (arith, put .asked .some, put .more)
+
+    pub second-reads : (u : Verdict) (t3 o3 : List ℕ)
+        → Walked z (second-half file z d a n i left t o (countsOf (put .tally)) (put .output)) u t3 o3 → Reads file z d a n i left t o u t3 o3
+    second-reads u t3 o3 =
+        walked-as
+        (sym (go-on (half-alike file z d a n i left t o) (put .walked) refl)
+        ∙ ap heldRun (halves file z d a n i left t o (put .asked .some) (put .more)))
 
 -- A level below.
 pub readable-under : (z : TreeSizes) (l : List ℕ) (d : ℕ) → Readable z l d → Readable z l (d - 1)

@@ -1,18 +1,19 @@
 -- The collector's own steps in the terms of the walk: what a tally and an answer say, counts held at 2^64 - 1, and what a step is given
 -- and leaves.
-use Prim.Native.Nat.{ℕ, _*_, _≤_, _<_}
+use Prim.Native.Nat.{ℕ, _+_, _*_, _≤_, _<_}
 use mathlib.Core.Path.{_≡_}
-use mathlib.Core.List.{List}
+use mathlib.Core.List.{List, []}
 use lib.ListN.{length, getD}
 use Rattle.numbers.specs.Numbers.{held}
 use Rattle.node_info.specs.Capacity.{countWidth, totalWidth}
 use Rattle.btree_v2_collect.specs.Walk.{Counts, Run, fine, stopped, ifPassed, Tests, innerRun, childrenRun, nodeRun}
-use Rattle.btree_v2_internal.specs.Internal.{Source}
+use Rattle.btree_v2_internal.specs.Internal.{Source, internalTest}
 use Rattle.btree_v2_collect.specs.Collect.{collectTests}
-use Rattle.refusal.specs.Answer.{verdictOf}
+use Rattle.refusal.specs.Answer.{accepted, verdictOf}
 use Rattle.refusal.specs.declared.Verdict.{Verdict}
 use Rattle.btree_v2_collect.specs.declared.Tally.{Tally}
 use Rattle.btree_v2_collect.specs.declared.collect.TreeSizes.{TreeSizes}
+use Rattle.btree_v2_header.specs.declared.BTreeV2Header.{BTreeV2Header}
 use Rattle.btree_v2_internal.specs.declared.Sizes.{Sizes}
 
 -- The counts of a tally of four numbers.
@@ -70,6 +71,21 @@ pub record Readable (z : TreeSizes) (l : List ℕ) (d : ℕ) : Type 0 where
 -- The records put out are within the output.
 abbrev pub Within : TreeSizes → List ℕ → List ℕ → Type 0
 Within z t o = getD t 0 0 * z .«record_size» ≤ length o
+
+-- `left` children from child i on, of an internal node of level d + 1 at address a with n records that passed its tests.
+pub record ChildrenLeft (file : List ℕ) (z : TreeSizes) (l : List ℕ) (d a n i left : ℕ) (t o : List ℕ) : Type 0 where
+  pub readable : Readable z l d
+  pub passed : internalTest (sourceAt file z) d a n ≡ accepted []
+  pub among : i + left ≤ n + 1
+  pub some : 0 < left
+  pub within : Within z t o
+
+-- A header whose root is read: none of the tests ends the call that need no file.
+pub record RootRead (h : BTreeV2Header) : Type 0 where
+  pub some : h .«total_records» ≡ 0 → ⊥
+  pub root : h .«num_records_in_root» ≡ 0 → ⊥
+  pub sized : h .«record_size» ≡ 0 → ⊥
+  pub deep : h .depth ≤ 32
 
 -- The walk x ends as the answer v, the tally t and the output o say, all counts held; and the records put out are within the output.
 pub record Walked (z : TreeSizes) (x : Run) (v : Verdict) (t o : List ℕ) : Type 0 where

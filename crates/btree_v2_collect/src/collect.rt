@@ -9,8 +9,8 @@ ghost use Rattle.btree_v2_collect.specs.Walk.{oneLeaf, oneInternal, oneI
 ghost use Rattle.btree_v2_internal.specs.Internal.{pointerPlace, childAddress, childRecords, internalTest};
 ghost use Rattle.btree_v2_collect.specs.Collect.{collected, runCells, runOutput};
 ghost use Rattle.btree_v2_header.specs.Answers.{fieldsOf};
-ghost use Rattle.btree_v2_collect.specs.Answers.{collectedCells};
-ghost use Rattle.btree_v2_collect.specs.Collecting.{countsOf, tallyOf, heldCounts, sourceAt, Readable, Within, Walked, sizesAbove, nodeWalk, innerWalk, childrenWalk};
+ghost use Rattle.btree_v2_collect.specs.Answers.{collectedCells, Ends};
+ghost use Rattle.btree_v2_collect.specs.Collecting.{countsOf, tallyOf, heldCounts, sourceAt, Readable, Within, ChildrenLeft, RootRead, Walked, sizesAbove, nodeWalk, innerWalk, childrenWalk};
 use crate::Collected;
 use crate::Tally;
 use btree_v2_header::BTreeV2Header;
@@ -240,9 +240,7 @@ fn collect_children(
     tally: &mut [u64; 4],
     output: &mut [u8],
 ) -> Verdict
-    requires { ⌜ Readable sizes (now «total_sizes») under ⌝ }
-    requires { ⌜ internalTest (sourceAt (now file) sizes) under address records ≡ accepted [] ⌝ }
-    requires { ⌜ (i + left ≤ records + 1) × (0 < left) × (Within sizes (now tally) (now output)) ⌝ }
+    requires { ⌜ ChildrenLeft (now file) sizes (now «total_sizes») under address records i left (now tally) (now output) ⌝ }
     ensures { λ r. ⌜ Walked sizes (childrenWalk (now (file .entry)) sizes under address records (left - 1) i (countsOf (now (tally .entry))) (now (output .entry))) r (now (tally .exit)) (now (output .exit)) ⌝ }
 {
     let node = Node { address, records };
@@ -315,6 +313,41 @@ fn tally_of(tally: &[u64; 4]) -> Tally
     }
 }
 
+// Collects from the root on: the sizes of the tree by the capacity table, and the walk.
+fn collect_root(file: &[u8], header: BTreeV2Header, offset_size: u8, output: &mut [u8]) -> Collected
+    requires { ⌜ RootRead header ⌝ }
+    ensures { λ r. ⌜ Ends (collected (now (file .entry)) (fieldsOf header) «offset_size» (now (output .entry))) r (now (output .exit)) ⌝ }
+{
+    let answer = NodeInfo::compute(
+        header.node_size,
+        header.record_size,
+        offset_size,
+        header.depth,
+    );
+    let info = answer.info;
+    let sizes = TreeSizes {
+        node_size: header.node_size,
+        record_size: header.record_size,
+        offset_size,
+        count_size: info.max_nrec_size,
+    };
+    let mut counted: [u64; 4] = [0; 4];
+    let verdict = collect_node(
+        file,
+        sizes,
+        &info.cum_max_nrec_size,
+        header.depth as usize,
+        header.root_node_address,
+        header.num_records_in_root,
+        &mut counted,
+        output,
+    );
+    Collected {
+        verdict,
+        tally: tally_of(&counted),
+    }
+}
+
 // Collects the records of the tree that a header describes into the front of the output.
 pub fn collect_btree_v2_records(
     file: &[u8],
@@ -354,32 +387,5 @@ pub fn collect_btree_v2_records(
             tally,
         };
     }
-    let answer = NodeInfo::compute(
-        header.node_size,
-        header.record_size,
-        offset_size,
-        header.depth,
-    );
-    let info = answer.info;
-    let sizes = TreeSizes {
-        node_size: header.node_size,
-        record_size: header.record_size,
-        offset_size,
-        count_size: info.max_nrec_size,
-    };
-    let mut counted: [u64; 4] = [0; 4];
-    let verdict = collect_node(
-        file,
-        sizes,
-        &info.cum_max_nrec_size,
-        header.depth as usize,
-        header.root_node_address,
-        header.num_records_in_root,
-        &mut counted,
-        output,
-    );
-    Collected {
-        verdict,
-        tally: tally_of(&counted),
-    }
+    collect_root(file, header, offset_size, output)
 }

@@ -1,10 +1,12 @@
--- The cycle of `collect_node` and `collect_children`: depth and children left make one falling number.
-use Prim.Native.Nat.{ℕ, _+_, _*_, _<_}
+-- The cycle of node step and child step, `collect_node` and `collect_children`: depth and children left make one falling number.
+use mathlib.Core.Path.{_≡_, refl}
+use Prim.Native.Nat.{ℕ, _<_}
 use native.Mathlib.Omega.{arith}
 use borrow.Author.Needs.{needs}
 use borrow.Fn.Kinds.{In}
 use borrow.Fn.PlainCycle.{Measures, is, falls, and}
-use Rattle.btree_v2_collect.proofs.Steps.{node-leaf, node-stops, node-passed, node-reads, internal-within, one-reads, first-stops, record-stops, second-reads, walked-accepted, readable-under}
+use Rattle.btree_v2_collect.proofs.Steps.{node-leaf, node-stops, node-passed, node-reads, internal-within, readable-under, walked-accepted}
+use Rattle.btree_v2_collect.proofs.Steps.{falling, one-reads, first-falls, first-asked, first-stops, FirstRead, record-stops, record-put, RecordPut, second-falls, second-asked, second-reads}
 use Rattle.btree_v2_collect.proofs.collect.collect_children.Reads as collect-children
 use Rattle.btree_v2_collect.proofs.collect.collect_children.Kinds as collect-children-kinds
 use Rattle.btree_v2_collect.proofs.collect.+collect_children+collect_node.Lts-collect_children as collect-children-lts
@@ -20,10 +22,10 @@ use Rattle.btree_v2_collect.proofs.collect.+collect_children+collect_no
 use Rattle.btree_v2_collect.proofs.collect.+collect_children+collect_node.Tie.{close}
 
 abbrev μ-collect-children : Measures 4 collect-children-kinds.ps ℕ
-μ-collect-children κs a = a .1 .1 .1 .0 * 65537 + a .1 .1 .1 .1 .1 .1 .1 .0
+μ-collect-children κs a = falling (a .1 .1 .1 .0) (a .1 .1 .1 .1 .1 .1 .1 .0)
 
 abbrev μ-collect-node : Measures 4 collect-node-kinds.ps ℕ
-μ-collect-node κs a = a .1 .1 .1 .0 * 65537
+μ-collect-node κs a = falling (a .1 .1 .1 .0) 0
 
 abbrev collect-children-at : ℕ → In 4 collect-children-kinds.ps
 collect-children-at t = and 4 collect-children-kinds.ps (is 4 collect-children-kinds.ps μ-collect-children t) collect-children.Pre
@@ -38,13 +40,62 @@ collect-node-at t = and 4 collect-node-kinds.ps (is 4 collect-node-kinds.ps μ-c
 abbrev collect-node-below : ℕ → In 4 collect-node-kinds.ps
 collect-node-below t = and 4 collect-node-kinds.ps (falls 4 collect-node-kinds.ps _<_ μ-collect-node t) collect-node.Pre
 
+-- What is known at places of the child step: where one child is left, where the first half is read, and where the record between is put out.
+module _ (t : ℕ) where
+  abbrev claims : collect-children-lts.Claims
+  claims =
+      (child-of-reads.Asked, child-of-reads.Learnt, collect-node-below t, collect-node.Post, collect-children-below t, collect-children.Post, put-inner-reads.Asked, put-inner-reads.Learnt)
+
+  abbrev Start : Type 0
+  Start = collect-children-lts.Start claims (collect-children-at t) collect-children.Post
+
+  abbrev OneLeft : Type 0
+  OneLeft = collect-children-lts.Then1 claims (collect-children-at t) collect-children.Post
+
+  abbrev AfterFirst : Type 0
+  AfterFirst = collect-children-lts.After-enum-told3 claims (collect-children-at t) collect-children.Post
+
+  abbrev AfterRecord : Type 0
+  AfterRecord = collect-children-lts.After-enum-told5 claims (collect-children-at t) collect-children.Post
+
+  one : (c : OneLeft) → c .before .before .before .args .left ≡ 1
+  one c = c .if1 .taken
+
+  first-asks : collect-children-lts.Need-collect-children-requires claims (collect-children-at t) collect-children.Post
+  first-asks c κs =
+      let start = c .before .before .before .before .before .pre in
+      (first-falls _ _ _ (start .0) (start .1 .some), search first-asked)
+
+  abbrev entry : AfterFirst → Start
+  entry c = c .before .before .before .before .before .before .before .before .before .before
+
+  abbrev first-of : AfterRecord → AfterFirst
+  first-of c = c .before .before .before .before .before .before .before
+
+  abbrev first : (c : AfterFirst)
+      → let x = entry c .args in
+      FirstRead (x .file .now) (x .sizes) (x .under) (x .address) (x .records) (x .i) (x .left) (x .tally .now) (x .output .now) (x .total-sizes .now)
+  first c =
+      record {
+        asked = entry c .pre .1;
+        more = c .before .before .before .before .before .before .before .if1 .left;
+        tally = _;
+        output = _;
+        walked = walked-accepted _ _ _ _ _ (c .enum-told3 .given .1) (c .before .before .before .before .collect-children .ensures);
+      }
+
+  abbrev put : (c : AfterRecord)
+      → let x = entry (first-of c) .args in
+      RecordPut (x .file .now) (x .sizes) (x .under) (x .address) (x .records) (x .i) (x .left) (x .tally .now) (x .output .now) (x .total-sizes .now)
+  put c = record-put (first (first-of c)) _ _ _ _ (c .before .before .before .before .put-inner .ensures) refl (c .enum-told5 .given .1)
+
 pub +collect-children+collect-node-spec : {M : Type 1} → statement M
 +collect-children+collect-node-spec =
     close
     μ-collect-children
     μ-collect-node
     (λ t. collect-children-lts.spec
-    (child-of-reads.Asked, child-of-reads.Learnt, collect-node-below t, collect-node.Post, collect-children-below t, collect-children.Post, put-inner-reads.Asked, put-inner-reads.Learnt)
+    (claims t)
     (collect-children-at t)
     collect-children.Post
     (λ c κs. search arith)
@@ -52,10 +103,10 @@ pub +collect-children+collect-node-spec : {M : Type 1} → statement M
     (λ c. search needs)
     (λ c. search needs)
     (λ c. search needs)
-    (λ c. let one = c .before .before .before .before .before .before .before .before in let entry = one .before .before .before in one-reads _ _ _ _ _ _ _ (entry .args .tally .now) (entry .args .output .now) _ (c .before .before .before .before .before .before .before .child-of .ensures) _ _ _ (one .if1 .taken) (c .before .before .before .before .collect-node .ensures))
+    (λ c. search (one-reads, one t (c .before .before .before .before .before .before .before .before)))
     (λ c. search needs)
-    (λ c. let one = c .before .before .before .before .before .before .before .before in let entry = one .before .before .before in walked-accepted _ _ _ _ _ (c .enum-told .given .1) (one-reads _ _ _ _ _ _ _ (entry .args .tally .now) (entry .args .output .now) _ (c .before .before .before .before .before .before .before .child-of .ensures) _ _ _ (one .if1 .taken) (c .before .before .before .before .collect-node .ensures)))
-    (λ c κs. let p = c .before .before .before .before .before .pre in (omega arith, (p .1 .0, (p .1 .1 .0, (omega arith, omega arith, p .1 .1 .1 .2)))))
+    (λ c. search (walked-accepted, one-reads, one t (c .before .before .before .before .before .before .before .before)))
+    (first-asks t)
     (λ c. search needs)
     (λ c. search needs)
     (λ c. search needs)
@@ -66,16 +117,16 @@ pub +collect-children+collect-node-spec : {M : Type 1} → statement M
     (λ c. search needs)
     (λ c. search needs)
     (λ c. search needs)
-    (λ c. let first = c .before .before .before .before .before .before .before in let entry = first .before .before .before .before .before .before .before .before .before .before in record-stops _ _ _ _ _ _ _ (entry .args .tally .now) (entry .args .output .now) (entry .pre .1 .1 .1 .1) (first .before .before .before .before .before .before .before .if1 .left) _ _ _ (first .before .before .before .before .collect-children .ensures) (first .enum-told3 .given .1) _ _ _ (c .before .before .before .before .put-inner .ensures) _ (c .enum-told6 .given .1))
+    (λ c. record-stops (first t (c .before .before .before .before .before .before .before)) _ _ _ _ (c .before .before .before .before .put-inner .ensures) refl _ (c .enum-told6 .given .1))
     (λ c. search needs)
     (λ c. search needs)
-    (λ c κs. let p = c .before .before .before .before .before .before .before .before .before .before .before .before .before .before .before .before .before .before .before .pre in let more = c .before .before .before .before .before .before .before .before .before .before .before .before .before .before .before .before .if1 .left in (omega (arith, p .0, more), (p .1 .0, (p .1 .1 .0, (omega (arith, p .1 .1 .1 .0), omega (arith, p .1 .1 .1 .1, more), c .before .before .before .before .before .before .put-inner .ensures .within)))))
+    (λ c κs. let p = put t (c .before .before) in (second-falls p (entry t (first-of t (c .before .before)) .pre .0), second-asked p))
     (λ c. search needs)
     (λ c. search needs)
     (λ c. search needs)
-    (λ c. let first = c .before .before .before .before .before .before .before .before .before .before .before .before .before .before in let entry = first .before .before .before .before .before .before .before .before .before .before in second-reads _ _ _ _ _ _ _ (entry .args .tally .now) (entry .args .output .now) (entry .pre .1 .1 .1 .1) (first .before .before .before .before .before .before .before .if1 .left) _ _ _ (first .before .before .before .before .collect-children .ensures) (first .enum-told3 .given .1) _ _ _ (c .before .before .before .before .before .before .before .before .before .before .before .put-inner .ensures) (c .before .before .before .before .before .before .before .enum-told5 .given .1) _ _ _ (c .before .before .before .before .collect-children2 .ensures))
+    (λ c. let p = put t (c .before .before .before .before .before .before .before) in second-reads p _ _ _ (c .before .before .before .before .collect-children2 .ensures))
     (λ c. search needs)
-    (λ c. let first = c .before .before .before .before .before .before .before .before .before .before .before .before .before .before in let entry = first .before .before .before .before .before .before .before .before .before .before in walked-accepted _ _ _ _ _ (c .enum-told7 .given .1) (second-reads _ _ _ _ _ _ _ (entry .args .tally .now) (entry .args .output .now) (entry .pre .1 .1 .1 .1) (first .before .before .before .before .before .before .before .if1 .left) _ _ _ (first .before .before .before .before .collect-children .ensures) (first .enum-told3 .given .1) _ _ _ (c .before .before .before .before .before .before .before .before .before .before .before .put-inner .ensures) (c .before .before .before .before .before .before .before .enum-told5 .given .1) _ _ _ (c .before .before .before .before .collect-children2 .ensures))))
+    (λ c. let p = put t (c .before .before .before .before .before .before .before) in walked-accepted _ _ _ _ _ (c .enum-told7 .given .1) (second-reads p _ _ _ (c .before .before .before .before .collect-children2 .ensures))))
     (λ t. collect-node-lts.spec
     (collect-leaf-reads.Asked, collect-leaf-reads.Learnt, check-node-reads.Asked, check-node-reads.Learnt, one-internal-reads.Asked, one-internal-reads.Learnt, collect-children-below t, collect-children.Post)
     (collect-node-at t)
@@ -94,7 +145,7 @@ pub +collect-children+collect-node-spec : {M : Type 1} → statement M
     (λ c. search node-stops)
     (λ c κs. search needs)
     (λ c. search needs)
-    (λ c κs. (omega arith, (search readable-under, (search node-passed, (omega arith, omega arith, search internal-within)))))
+    (λ c κs. (omega arith, record { readable = search readable-under; passed = search node-passed; among = omega arith; some = omega arith; within = search internal-within }))
     (λ c. search needs)
     (λ c. search needs)
     (λ c. search needs)
