@@ -65,6 +65,10 @@ fine-alike = record { same = λ c o. rw counts-twice }
 pub count-alike : Alike (λ c o. fine (oneInner c) o)
 count-alike = alike-count fine-alike oneInner (λ c. simp (held-held, held-add))
 
+-- The test after a child, where k records were there before it.
+pub after-alike : (tests : Tests) (d p k : ℕ) → Alike (λ c o. ifPassed (tests .child d p (c .records - k)) c o (fine c o))
+after-alike tests d p k = record { same = λ c o. alike-if fine-alike (tests .child d p (c .records - k)) .same c o }
+
 module _ (s : Source) where
   put-by : (t : Bool) (p : ℕ)
       → Alike (λ c o. orElse t (stopped 15 (length o ∷ []) c o) (fine (oneRecord c) (stored o (c .records * s .rs) (part (s .file) p (s .rs)))))
@@ -86,7 +90,7 @@ module _ (s : Source) where
         record {
           leaf = λ a n. alike-if (alike-count (puts-alike n (a + 6)) oneLeaf (λ c. simp (held-held, held-add))) (tests .leaf a n);
           internal = λ d a n h. alike-if (alike-count h oneInternal (λ c. simp (held-held, held-add))) (tests .internal d a n);
-          child = λ d a n i h. alike-with h (λ k. record { same = λ c o. alike-if fine-alike (tests .child d _ (c .records - k)) .same c o });
+          child = λ d a n i h. alike-with h (after-alike tests d _);
           inner = λ d a n i. alike-then (put-alike _) count-alike;
           more = λ f g h. alike-then f (alike-then g h);
         }
