@@ -1,17 +1,14 @@
 -- In every accepted walk, leaves are one more than records from internal nodes.
 use mathlib.Core.Path.{_≡_, refl}
-use mathlib.Core.Bool.{Bool, true, false}
-use mathlib.Core.List.{List, [], _∷_}
+use mathlib.Core.List.{List}
 use Prim.Native.Nat.{ℕ, _+_}
 use native.Mathlib.Omega.{arith}
-use lib.Dec.{leb, ltb}
-use borrow.Author.Tests.{ne-eqb}
-use Rattle.refusal.specs.Answer.{Answer, accepted, refused, orElse}
+use Rattle.refusal.specs.Answer.{Answer, accepted, refused}
 use Rattle.btree_v2_collect.specs.Walk.{Counts, Run, fine, stopped, andThen, ifPassed, noCounts, oneRecord, oneLeaf, oneInternal, oneInner, Tests, putRecord, putRecords, leafRun, innerRun, nodeRun}
 use Rattle.btree_v2_internal.specs.Internal.{Source}
 use Rattle.btree_v2_header.specs.Header.{Header}
 use Rattle.btree_v2_collect.specs.Collect.{collectTests, sourceOf, collected}
-use Rattle.btree_v2_collect.proofs.Outcomes.{put-cases}
+use Rattle.btree_v2_collect.proofs.Outcomes.{put-cases, collected-fine}
 use Rattle.btree_v2_collect.proofs.Walking.{Step, records-walked, node-walked}
 
 -- Where a walk from the counts c on is accepted, it counts x more leaves and y more records from internal nodes, or as many more of both.
@@ -67,13 +64,6 @@ module _ (s : Source) where
 -- Collecting that reads a root.
 pub one-leaf-more : (file : List ℕ) (h : Header) (ow : ℕ) (out : List ℕ) (c : Counts) (o : List ℕ)
     → (h .records ≡ 0 → ⊥) → (h .rootRecords ≡ 0 → ⊥) → collected file h ow out ≡ fine c o → c .leaves ≡ c .inner + 1
-unfolding collected
 one-leaf-more file h ow out c o some root e =
-    let walked = rw (ne-eqb (h .records) 0 some, ne-eqb (h .rootRecords) 0 root) at e in
     let run = node-balanced (sourceOf file h ow) (collectTests (sourceOf file h ow)) (h .depth) (h .root) (h .rootRecords) noCounts out in
-    omega (arith, after (ltb 0 (h .rs)) 8 [] (after (leb (h .depth) 32) 16 (h .depth ∷ []) run) .balance c o walked)
-  where
-    after : (t : Bool) (number : ℕ) (values : List ℕ) {r : Run} → Balanced 1 0 noCounts r
-        → Balanced 1 0 noCounts (orElse t (stopped number values noCounts out) r)
-    after true number values k = k
-    after false number values k = stops
+    omega (arith, run .balance c o (collected-fine file h ow out some root c o e))

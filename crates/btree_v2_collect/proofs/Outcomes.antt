@@ -5,7 +5,7 @@ use mathlib.Core.List.{List, [], _∷_}
 use Prim.Native.Nat.{ℕ, zero, suc, _+_, _-_, _*_, _≤_, _<_}
 use native.Mathlib.Nat.{suc-add, zero-add, add-zero, zero-mul}
 use native.Mathlib.Omega.{arith}
-use lib.Dec.{leb}
+use lib.Dec.{leb, ltb}
 use lib.ListN.{length}
 use borrow.Author.Tests.{leb-true, le-ltb, lt-ltb, le-leb, lt-leb, eq-eqb, ne-eqb}
 use Rattle.numbers.specs.Numbers.{part}
@@ -74,6 +74,18 @@ module _ (file : List ℕ) (h : Header) (ow : ℕ) (out : List ℕ) where
     pub collected-8 : h .rs ≡ 0 → collected file h ow out ≡ stopped 8 [] noCounts out
     unfolding collected
     collected-8 e = rw (ne-eqb (h .records) 0 some, ne-eqb (h .rootRecords) 0 root, le-ltb 0 (h .rs) (omega arith))
+
+    -- Where it is accepted, so was the walk.
+    pub collected-fine : (c : Counts) (o : List ℕ) → collected file h ow out ≡ fine c o
+        → nodeRun (sourceOf file h ow) (collectTests (sourceOf file h ow)) (h .depth) (h .root) (h .rootRecords) noCounts out ≡ fine c o
+    unfolding collected
+    collected-fine c o e =
+        let sized = past (ltb 0 (h .rs)) 8 [] _ (rw (ne-eqb (h .records) 0 some, ne-eqb (h .rootRecords) 0 root) at e) in
+        past (leb (h .depth) 32) 16 (h .depth ∷ []) _ sized
+      where
+        past : (t : Bool) (number : ℕ) (values : List ℕ) (r : Run) → orElse t (stopped number values noCounts out) r ≡ fine c o → r ≡ fine c o
+        past true number values r f = f
+        past false number values r f = cc
 
     module _ (bytes : h .rs ≡ 0 → ⊥) where
       pub collected-16 : 32 < h .depth → collected file h ow out ≡ stopped 16 (h .depth ∷ []) noCounts out
