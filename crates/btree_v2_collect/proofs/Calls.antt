@@ -15,9 +15,9 @@ use Rattle.node_info.specs.declared.NodeInfo.{NodeInfo}
 use Rattle.node_info.specs.Table.{infoAt, noInfo}
 use Rattle.node_info.proofs.Columns.{total-entry}
 use Rattle.btree_v2_collect.specs.Walk.{Run, fine, stopped, noCounts}
-use Rattle.btree_v2_header.specs.Header.{Header}
 use Rattle.btree_v2_collect.specs.Collect.{collected, sourceOf, countCells, runCells, runOutput}
 use Rattle.btree_v2_collect.proofs.Outcomes.{collected-none, collected-root-none, collected-8, collected-16, collected-walk}
+use Rattle.btree_v2_header.specs.Header.{Header}
 use Rattle.btree_v2_header.specs.declared.BTreeV2Header.{BTreeV2Header}
 use Rattle.refusal.specs.declared.Verdict.{Verdict}
 use Rattle.refusal.specs.declared.Verdict.the-variants.{Accepted, Refused}
@@ -25,7 +25,7 @@ use Rattle.btree_v2_collect.specs.declared.Tally.{Tally}
 use Rattle.btree_v2_collect.specs.declared.collect.TreeSizes.{TreeSizes}
 use Rattle.btree_v2_header.specs.Answers.{fieldsOf}
 use Rattle.btree_v2_collect.specs.Answers.{Ends}
-use Rattle.btree_v2_collect.specs.Collecting.{countsOf, tallyOf, runOf, heldRun, sourceAt, Readable, RootRead, Walked, nodeWalk}
+use Rattle.btree_v2_collect.specs.Collecting.{countsOf, tallyOf, runOf, heldRun, sourceAt, testsAt, Readable, RootRead, Walked, nodeWalk}
 use Rattle.btree_v2_collect.proofs.Holding.{held-held}
 
 -- Held counts or exact ones: the same cells and output.
@@ -116,7 +116,7 @@ module _ {h : BTreeV2Header} (read : RootRead h) (ow : ℕ) (info : NodeInfo)
       }
 
   -- A node at address a with n records is the root.
-  pub root-walked : (file o : List ℕ) (a n : ℕ) (v : Verdict) (t o1 : List ℕ) → Walked sizes (nodeWalk file sizes (h .depth) a n noCounts o) v t o1
+  pub root-walked : (file o : List ℕ) (a n : ℕ) (v : Verdict) (t o1 : List ℕ) → Walked sizes (nodeWalk file sizes (testsAt file sizes) (h .depth) a n noCounts o) v t o1
       → a ≡ h .«root_node_address» → n ≡ h .«num_records_in_root» → (r : Tally) → r ≡ tallyOf t → Small r
       → Ends (collected file (fieldsOf h) ow o) (record { verdict = v; tally = r }) o1
   unfolding nodeWalk sourceAt sourceOf

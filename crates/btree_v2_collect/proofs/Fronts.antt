@@ -1,22 +1,23 @@
 -- What every walk leaves, refused or not: a front of whole records is put out and every other byte of the output stays.
 use mathlib.Core.Path.{_≡_, refl, _∙_}
 use mathlib.Core.Bool.{Bool, true, false, not, _||_}
-use mathlib.Core.List.{List, [], _∷_}
-use Prim.Native.Nat.{ℕ, zero, suc, _+_, _-_, _*_, _≤_, zero-le}
+use mathlib.Core.List.{List}
+use Prim.Native.Nat.{ℕ, _+_, _-_, _*_, _≤_, zero-le}
 use native.Mathlib.Nat.{le-refl, le-trans, zero-mul, mul-le-mul-right}
 use native.Mathlib.Omega.{arith}
 use lib.Dec.{leb, ltb, eqb}
 use lib.ListN.{length, take, drop, length-take}
 use lib.Seq.{take-take, drop-drop}
-use borrow.Author.Tests.{leb-true}
 use Rattle.numbers.specs.Numbers.{part}
 use Rattle.numbers.specs.Places.{stored}
 use Rattle.numbers.proofs.Lists.{length-stored, take-stored, drop-stored-end}
 use Rattle.refusal.specs.Answer.{Answer, accepted, refused, orElse}
-use Rattle.btree_v2_collect.specs.Walk.{Counts, Run, fine, stopped, andThen, ifPassed, noCounts, oneRecord, oneLeaf, oneInternal, oneInner, Tests, putRecord, putRecords, leafRun, childRun, innerRun, childrenRun, nodeRun}
-use Rattle.btree_v2_internal.specs.Internal.{Source, pointerPlace}
+use Rattle.btree_v2_collect.specs.Walk.{Counts, Run, fine, stopped, andThen, ifPassed, noCounts, oneLeaf, oneInternal, oneInner, Tests, putRecord, putRecords, leafRun, innerRun, nodeRun}
+use Rattle.btree_v2_internal.specs.Internal.{Source}
 use Rattle.btree_v2_header.specs.Header.{Header}
 use Rattle.btree_v2_collect.specs.Collect.{collected, sourceOf, runOutput}
+use Rattle.btree_v2_collect.proofs.Outcomes.{put-cases}
+use Rattle.btree_v2_collect.proofs.Walking.{Step, records-walked, node-walked}
 
 -- The counts that a walk ends with.
 abbrev pub runCounts : Run → Counts
@@ -77,72 +78,55 @@ module _ (rs : ℕ) where
       }
   and-then {r = stopped number values c o1} h f = h
 
+  stays : {number : ℕ} {values : List ℕ} (c : Counts) (o : List ℕ) → Fronted (c .records) o (stopped number values c o)
+  stays c o = record { more = le-refl (c .records); room = λ h. h; kept = kept-same (c .records * rs) o }
+
   if-passed : (x : Answer) (c : Counts) {o : List ℕ} {r : Run} → Fronted (c .records) o r → Fronted (c .records) o (ifPassed x c o r)
   if-passed (accepted figures) c h = h
-  if-passed (refused number values) c {o} h =
-      record { more = le-refl (c .records); room = λ l. l; kept = kept-same (c .records * rs) o }
+  if-passed (refused number values) c {o} h = stays c o
 
 module _ (s : Source) where
-  put-by : (t : Bool) (p : ℕ) (c : Counts) (o : List ℕ) → (t ≡ true → (c .records + 1) * s .rs ≤ length o)
-      → Fronted (s .rs) (c .records) o
-      (orElse t (stopped 15 (length o ∷ []) c o) (fine (oneRecord c) (stored o (c .records * s .rs) (part (s .file) p (s .rs)))))
-  put-by true p c o h =
+  abbrev Front : Step → Type 0
+  Front f = (c : Counts) (o : List ℕ) → Fronted (s .rs) (c .records) o (f c o)
+
+  put-front : (p : ℕ) → Front (putRecord s p)
+  put-front p c o =
+      put-cases s p c o (Fronted (s .rs) (c .records) o)
+      (λ h.
       let whole : length (part (s .file) p (s .rs)) ≤ s .rs = simp length-take (omega arith) in
       record {
         more = omega arith;
-        room = λ l. h refl;
-        kept = kept-stored (c .records * s .rs) ((c .records + 1) * s .rs) o _ (omega arith) (h refl);
-      }
-  put-by false p c o h = if-passed (s .rs) (refused 15 (length o ∷ [])) c (front-fine (s .rs) c o)
+        room = λ l. h;
+        kept = kept-stored (c .records * s .rs) ((c .records + 1) * s .rs) o _ (omega arith) h;
+      })
+      (stays (s .rs) c o)
 
-  put-fronted : (p : ℕ) (c : Counts) (o : List ℕ) → Fronted (s .rs) (c .records) o (putRecord s p c o)
-  unfolding putRecord
-  put-fronted p c o = put-by (leb ((c .records + 1) * s .rs) (length o)) p c o (leb-true _ _)
-
-  puts-fronted : (n p : ℕ) (c : Counts) (o : List ℕ) → Fronted (s .rs) (c .records) o (putRecords s n p c o)
-  unfolding putRecords
-  puts-fronted zero p c o = front-fine (s .rs) c o
-  puts-fronted (suc n) p c o = and-then (s .rs) (put-fronted p c o) (puts-fronted n (p + s .rs))
-
-module _ (s : Source) (tests : Tests) where
-  module _ (d a n : ℕ) (node : ℕ → ℕ → Counts → List ℕ → Run)
-      (fronted : (b k : ℕ) (c : Counts) (o : List ℕ) → Fronted (s .rs) (c .records) o (node b k c o)) where
-    child-fronted : (i : ℕ) (c : Counts) (o : List ℕ) → Fronted (s .rs) (c .records) o (childRun s tests d a n node i c o)
-    unfolding childRun
-    child-fronted i c o =
-        and-then (s .rs) (fronted _ _ c o)
-        (λ c1 o1. if-passed (s .rs) (tests .child d (pointerPlace s d a n i) (c1 .records - c .records)) c1 (front-fine (s .rs) c1 o1))
-
-    inner-fronted : (i : ℕ) (c : Counts) (o : List ℕ) → Fronted (s .rs) (c .records) o (innerRun s tests d a n node i c o)
-    unfolding innerRun
-    inner-fronted i c o =
-        and-then (s .rs) (put-fronted s (a + 6 + i * s .rs) c o) (λ c1 o1. front-fine (s .rs) (oneInner c1) o1)
-
-    children-fronted : (left i : ℕ) (c : Counts) (o : List ℕ)
-        → Fronted (s .rs) (c .records) o (childrenRun s tests d a n node left i c o)
-    unfolding childrenRun
-    children-fronted zero i c o = child-fronted i c o
-    children-fronted (suc left) i c o =
-        and-then (s .rs) (child-fronted i c o) (λ c1 o1. and-then (s .rs) (inner-fronted i c1 o1) (children-fronted left (i + 1)))
+  puts-front : (n p : ℕ) → Front (putRecords s n p)
+  puts-front =
+      records-walked s {P = λ n p. Front}
+      (record { none = front-fine (s .rs); more = λ h c o. and-then (s .rs) (put-front _ c o) h })
 
   -- Of every source, tests and output.
-  pub node-fronted : (d a n : ℕ) (c : Counts) (o : List ℕ) → Fronted (s .rs) (c .records) o (nodeRun s tests d a n c o)
-  unfolding nodeRun leafRun
-  node-fronted zero a n c o = if-passed (s .rs) (tests .leaf a n) c (puts-fronted s n (a + 6) (oneLeaf c) o)
-  node-fronted (suc d) a n c o =
-      if-passed (s .rs) (tests .internal d a n) c (children-fronted d a n (nodeRun s tests d) (node-fronted d) n 0 (oneInternal c) o)
+  pub node-fronted : (tests : Tests) (d a n : ℕ) (c : Counts) (o : List ℕ) → Fronted (s .rs) (c .records) o (nodeRun s tests d a n c o)
+  unfolding leafRun innerRun
+  node-fronted tests =
+      node-walked s tests {N = λ d a n. Front} {C = λ d a n m i. Front} {R = λ d a n i. Front}
+      (record {
+        leaf = λ a n c o. if-passed (s .rs) (tests .leaf a n) c (puts-front n (a + 6) (oneLeaf c) o);
+        internal = λ d a n h c o. if-passed (s .rs) (tests .internal d a n) c (h (oneInternal c) o);
+        child = λ d a n i h c o. and-then (s .rs) (h c o) (λ c1 o1. if-passed (s .rs) (tests .child d _ _) c1 (front-fine (s .rs) c1 o1));
+        inner = λ d a n i c o. and-then (s .rs) (put-front _ c o) (λ c1. front-fine (s .rs) (oneInner c1));
+        more = λ f g h c o. and-then (s .rs) (f c o) (λ c1 o1. and-then (s .rs) (g c1 o1) h);
+      })
 
 -- Collecting, from no record on.
 pub collected-fronted : (file : List ℕ) (h : Header) (ow : ℕ) (out : List ℕ) → Fronted (h .rs) 0 out (collected file h ow out)
 unfolding collected sourceOf
 collected-fronted file h ow out =
     or-else (not (eqb (h .records) 0 || eqb (h .rootRecords) 0)) (front-fine (h .rs) noCounts out)
-    (or-else (ltb 0 (h .rs)) (none 8 [])
-    (or-else (leb (h .depth) 32) (none 16 (h .depth ∷ [])) (node-fronted (sourceOf file h ow) _ (h .depth) _ _ noCounts out)))
+    (or-else (ltb 0 (h .rs)) (stays (h .rs) noCounts out)
+    (or-else (leb (h .depth) 32) (stays (h .rs) noCounts out) (node-fronted (sourceOf file h ow) _ (h .depth) _ _ noCounts out)))
   where
-    none : (number : ℕ) (values : List ℕ) → Fronted (h .rs) 0 out (stopped number values noCounts out)
-    none number values = if-passed (h .rs) (refused number values) noCounts (front-fine (h .rs) noCounts out)
-
     or-else : (t : Bool) {x y : Run} → Fronted (h .rs) 0 out x → Fronted (h .rs) 0 out y → Fronted (h .rs) 0 out (orElse t x y)
     or-else true f g = g
     or-else false f g = f

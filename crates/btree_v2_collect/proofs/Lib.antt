@@ -4,8 +4,11 @@ mod Holding
 mod Nodes
 mod Putting
 mod Steps
+pub mod Walking
 pub mod Outcomes
 pub mod Fronts
 pub mod Puts
 pub mod Sound
 pub mod Balance
+pub mod InFile
+pub mod Places

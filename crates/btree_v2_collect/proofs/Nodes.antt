@@ -1,8 +1,8 @@
 -- An internal node of a tree: it is read by its own sizes, and what it has where it passes its tests.
-use mathlib.Core.Path.{_≡_, refl, _∙_}
+use mathlib.Core.Path.{_≡_, refl, sym, ap, _∙_}
 use mathlib.Core.Bool.{true}
 use mathlib.Core.List.{List, []}
-use Prim.Native.Nat.{ℕ, _+_, _-_, _*_, _^_, _≤_, _<_}
+use Prim.Native.Nat.{ℕ, _+_, _*_, _^_, _≤_, _<_}
 use native.Mathlib.Nat.{le-refl, mul-le-mul-right}
 use native.Mathlib.Omega.{arith}
 use lib.ListN.{length, getD}
@@ -14,12 +14,15 @@ use Rattle.refusal.specs.Answer.{accepted, verdictOf}
 use Rattle.node_info.proofs.Capacities.{count-width-le}
 use Rattle.btree_v2_internal.specs.Internal.{pointerWidth, pointerPlace, childAddress, childRecords, internalTest}
 use Rattle.refusal.specs.declared.Verdict.{Verdict}
+use Rattle.refusal.specs.declared.Verdict.the-variants.{Accepted}
+use Rattle.btree_v2_leaf.specs.Leaf.{leafTest}
+use Rattle.btree_v2_collect.specs.Collect.{collectTests}
 use Rattle.btree_v2_internal.specs.declared.Sizes.{Sizes}
 use Rattle.btree_v2_internal.specs.declared.Node.{Node}
 use Rattle.btree_v2_internal.specs.Pointers.{sourceBy, pointerAt, addressAt, recordsAt}
 use Rattle.btree_v2_internal.proofs.Nodes.{internal-there, fields-walked}
 use Rattle.btree_v2_collect.specs.declared.collect.TreeSizes.{TreeSizes}
-use Rattle.btree_v2_collect.specs.Collecting.{sourceAt, sizesAbove, Readable}
+use Rattle.btree_v2_collect.specs.Collecting.{sourceAt, testsAt, sizesAbove, Readable, NodeThere, ChildAt}
 
 -- `sizes_above`: the table has the size of the totals.
 pub sizes-are : (z : TreeSizes) (l : List ℕ) (d : ℕ) → Readable z l d
@@ -28,46 +31,57 @@ pub sizes-are : (z : TreeSizes) (l : List ℕ) (d : ℕ) → Readable z l d
 unfolding sizesAbove
 sizes-are z l d readable = rw (readable .counts, readable .totals d (le-refl d))
 
-module _ (file : List ℕ) (z : TreeSizes) (x : Node) (d : ℕ) where
-  -- By its own sizes an internal node whose children have level d has the same tests.
-  tests-same : internalTest (sourceBy file (sizesAbove z d)) 0 (x .address) (x .records) ≡ internalTest (sourceAt file z) d (x .address) (x .records)
-  unfolding internalTest pointerWidth sourceBy sourceAt sizesAbove
-  tests-same = refl
+-- Collecting's tests: the code's verdicts are theirs; and nothing is tested after a child.
+module _ (file : List ℕ) (z : TreeSizes) where
+  pub leaf-tested : (a n : ℕ) (v : Verdict) → verdictOf v ≡ leafTest file (z .«record_size») a n → verdictOf v ≡ testsAt file z .leaf a n
+  unfolding collectTests sourceAt
+  leaf-tested a n v told = told
 
-  pub node-tested : (v : Verdict) (p : Sizes) → p ≡ sizesAbove z d
+  pub node-tested : (x : Node) (d : ℕ) (v : Verdict) (p : Sizes) → p ≡ sizesAbove z d
       → verdictOf v ≡ internalTest (sourceBy file p) 0 (x .address) (x .records)
-      → verdictOf v ≡ internalTest (sourceAt file z) d (x .address) (x .records)
-  node-tested v p e told = rw e at told ∙ tests-same
+      → verdictOf v ≡ testsAt file z .internal d (x .address) (x .records)
+  unfolding collectTests internalTest pointerWidth sourceBy sourceAt sizesAbove
+  node-tested x d v p e told = rw e at told
 
-  -- A node that passes has its records, and offsets have one of the sizes.
-  module _ (passes : internalTest (sourceAt file z) d (x .address) (x .records) ≡ accepted []) where
-    all-there : (x .address + 6 ≤ length file) × (6 + x .records * z .«record_size» ≤ length file - x .address)
-        × (fieldSize (z .«offset_size») ≡ true)
+  pub none-after : (d p m : ℕ) → accepted [] ≡ testsAt file z .child d p m
+  unfolding collectTests
+  none-after d p m = refl
+
+  -- An internal node that passes has its records, and offsets have one of the sizes.
+  pub node-there : (d a n : ℕ) (v : Verdict) → verdictOf v ≡ testsAt file z .internal d a n → v ≡ Accepted → NodeThere (sourceAt file z) a n
+  unfolding collectTests
+  node-there d a n v told e =
+      let h = internal-there (sourceAt file z) d a n (sym told ∙ ap verdictOf e) in
+      record { rows = omega (arith, h .0, h .1); offset = h .2 }
+
+-- An internal node that is read on.
+module _ (file : List ℕ) (z : TreeSizes) (x : Node) (there : NodeThere (sourceAt file z) (x .address) (x .records)) where
+  offset-there : fieldSize (z .«offset_size») ≡ true
+  unfolding sourceAt
+  offset-there = there .offset
+
+  pub child-there : (d : ℕ) (p : Sizes) (i : ℕ) (b : Node) → p ≡ sizesAbove z d
+      → (b .address ≡ addressAt file p x i) × (b .records ≡ recordsAt file p x i)
+      → ChildAt (sourceAt file z) d (x .address) (x .records) i b
+  unfolding childAddress childRecords pointerAt pointerPlace pointerWidth sourceBy sourceAt sizesAbove
+  child-there d p i b e told =
+      let walked = fields-walked file (sizesAbove z d) x i (field-size-le _ offset-there) (count-width-le _ _) in
+      record { address = rw e at (told .0) ∙ walked .0; records = rw e at (told .1) ∙ walked .1 }
+
+  -- Record i.
+  module _ (i : ℕ) (h : i < x .records) where
+    pub record-there : x .address + 6 + i * z .«record_size» + 1 * z .«record_size» ≤ length file
     unfolding sourceAt
-    all-there = internal-there (sourceAt file z) d (x .address) (x .records) passes
+    record-there =
+        let j : i + 1 ≤ x .records = omega arith in
+        omega (arith, there .rows, mul-le-mul-right (z .«record_size») j)
 
-    pub child-there : (p : Sizes) (i : ℕ) (b : Node) → p ≡ sizesAbove z d
-        → (b .address ≡ addressAt file p x i) × (b .records ≡ recordsAt file p x i)
-        → (b .address ≡ childAddress (sourceAt file z) (pointerPlace (sourceAt file z) d (x .address) (x .records) i))
-        × (b .records ≡ childRecords (sourceAt file z) (pointerPlace (sourceAt file z) d (x .address) (x .records) i))
-    unfolding childAddress childRecords pointerAt pointerPlace pointerWidth sourceBy sourceAt sizesAbove
-    child-there p i b e told =
-        let walked = fields-walked file (sizesAbove z d) x i (field-size-le _ (all-there .2)) (count-width-le _ _) in
-        (rw e at (told .0) ∙ walked .0, rw e at (told .1) ∙ walked .1)
+    module _ (l : length file < 2 ^ 64) where
+      pub begin-fits : Fits w64 (x .address + 6)
+      begin-fits = omega (arith, record-there)
 
-    -- Record i.
-    module _ (i : ℕ) (h : i < x .records) where
-      pub record-there : x .address + 6 + i * z .«record_size» + 1 * z .«record_size» ≤ length file
-      record-there =
-          let j : i + 1 ≤ x .records = omega arith in
-          omega (arith, all-there .0, all-there .1, mul-le-mul-right (z .«record_size») j)
+      pub record-offset : Fits w64 (i * z .«record_size»)
+      record-offset = omega (arith, record-there)
 
-      module _ (l : length file < 2 ^ 64) where
-        pub begin-fits : Fits w64 (x .address + 6)
-        begin-fits = omega (arith, record-there)
-
-        pub record-offset : Fits w64 (i * z .«record_size»)
-        record-offset = omega (arith, record-there)
-
-        pub record-place : Fits w64 (x .address + 6 + i * z .«record_size»)
-        record-place = omega (arith, record-there)
+      pub record-place : Fits w64 (x .address + 6 + i * z .«record_size»)
+      record-place = omega (arith, record-there)

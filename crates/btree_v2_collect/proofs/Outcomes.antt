@@ -1,23 +1,20 @@
--- What a test's outcome, or a step's, makes of the walk: one law for each.
+-- What room in the output makes of a record or of several, and what the header makes of collecting: one law for each outcome.
 use mathlib.Core.Path.{_≡_, refl, ap, fun-ext}
-use mathlib.Core.Bool.{or-true}
+use mathlib.Core.Bool.{Bool, true, false, or-true}
 use mathlib.Core.List.{List, [], _∷_}
 use Prim.Native.Nat.{ℕ, zero, suc, _+_, _-_, _*_, _≤_, _<_}
 use native.Mathlib.Nat.{suc-add, zero-add, add-zero, zero-mul}
 use native.Mathlib.Omega.{arith}
+use lib.Dec.{leb, ltb}
 use lib.ListN.{length}
-use borrow.Author.Tests.{le-ltb, lt-ltb, le-leb, lt-leb, eq-eqb, ne-eqb}
+use borrow.Author.Tests.{leb-true, le-ltb, lt-ltb, le-leb, lt-leb, eq-eqb, ne-eqb}
 use Rattle.numbers.specs.Numbers.{part}
 use Rattle.numbers.specs.Places.{stored}
+use Rattle.refusal.specs.Answer.{orElse}
 use Rattle.btree_v2_collect.specs.Walk.{Counts, Run, fine, stopped, andThen, noCounts, oneRecord, putRecord, putRecords, nodeRun}
 use Rattle.btree_v2_internal.specs.Internal.{Source}
 use Rattle.btree_v2_header.specs.Header.{Header}
 use Rattle.btree_v2_collect.specs.Collect.{collectTests, sourceOf, collected}
-
--- A step after a step or a test, by how that ended.
-module _ (next : Counts → List ℕ → Run) where
-  pub then-fine : (r : Run) (c : Counts) (o : List ℕ) → r ≡ fine c o → andThen r next ≡ next c o
-  then-fine r c o e = rw e
 
 -- A record where there is room, and where there is none; n records, split anywhere; those that fit, and 15.
 module _ (s : Source) where
@@ -30,6 +27,18 @@ module _ (s : Source) where
     pub put-short : length o < (c .records + 1) * s .rs → putRecord s p c o ≡ stopped 15 (length o ∷ []) c o
     unfolding putRecord
     put-short h = rw (lt-leb _ _ h)
+
+    -- One of the two.
+    pub put-cases : (P : Run → Type 0)
+        → ((c .records + 1) * s .rs ≤ length o → P (fine (oneRecord c) (stored o (c .records * s .rs) (part (s .file) p (s .rs)))))
+        → P (stopped 15 (length o ∷ []) c o) → P (putRecord s p c o)
+    unfolding putRecord
+    put-cases P fits short = by (leb ((c .records + 1) * s .rs) (length o)) (leb-true _ _)
+      where
+        by : (t : Bool) → (t ≡ true → (c .records + 1) * s .rs ≤ length o)
+            → P (orElse t (stopped 15 (length o ∷ []) c o) (fine (oneRecord c) (stored o (c .records * s .rs) (part (s .file) p (s .rs)))))
+        by true h = fits (h refl)
+        by false h = short
 
   then-then : (r : Run) (f g : Counts → List ℕ → Run) → andThen (andThen r f) g ≡ andThen r (λ c o. andThen (f c o) g)
   then-then (fine c o) f g = refl
@@ -65,6 +74,18 @@ module _ (file : List ℕ) (h : Header) (ow : ℕ) (out : List ℕ) where
     pub collected-8 : h .rs ≡ 0 → collected file h ow out ≡ stopped 8 [] noCounts out
     unfolding collected
     collected-8 e = rw (ne-eqb (h .records) 0 some, ne-eqb (h .rootRecords) 0 root, le-ltb 0 (h .rs) (omega arith))
+
+    -- Where it is accepted, so was the walk.
+    pub collected-fine : (c : Counts) (o : List ℕ) → collected file h ow out ≡ fine c o
+        → nodeRun (sourceOf file h ow) (collectTests (sourceOf file h ow)) (h .depth) (h .root) (h .rootRecords) noCounts out ≡ fine c o
+    unfolding collected
+    collected-fine c o e =
+        let sized = past (ltb 0 (h .rs)) 8 [] _ (rw (ne-eqb (h .records) 0 some, ne-eqb (h .rootRecords) 0 root) at e) in
+        past (leb (h .depth) 32) 16 (h .depth ∷ []) _ sized
+      where
+        past : (t : Bool) (number : ℕ) (values : List ℕ) (r : Run) → orElse t (stopped number values noCounts out) r ≡ fine c o → r ≡ fine c o
+        past true number values r f = f
+        past false number values r f = cc
 
     module _ (bytes : h .rs ≡ 0 → ⊥) where
       pub collected-16 : 32 < h .depth → collected file h ow out ≡ stopped 16 (h .depth ∷ []) noCounts out

@@ -1,7 +1,6 @@
--- A tree in a file, between reader and image: no output, count or refusal stands here. And the walk over it: it puts out the tree's records
--- and counts its nodes.
+-- The walk over a sound tree puts out the tree's records and counts its nodes.
 use mathlib.Core.Path.{_≡_, refl}
-use mathlib.Core.List.{List, [], _++_, append-nil}
+use mathlib.Core.List.{List, [], append-nil}
 use Prim.Native.Nat.{ℕ, zero, suc, _+_, _*_, _≤_}
 use native.Mathlib.Nat.{add-comm, mul-le-mul-right, add-zero, zero-add, add-sub-cancel-left}
 use native.Mathlib.Omega.{arith}
@@ -10,42 +9,9 @@ use Rattle.numbers.specs.Numbers.{part}
 use Rattle.refusal.specs.Answer.{Answer, accepted}
 use Rattle.plan.specs.Tree.{Kids, last, more, Tree, sumKids, between, count, size, leaves, internals, inner}
 use Rattle.btree_v2_collect.specs.Walk.{Counts, Run, ifPassed, oneLeaf, oneInternal, oneInner, Tests, leafRun, childRun, innerRun, childrenRun, nodeRun}
-use Rattle.btree_v2_internal.specs.Internal.{Source, pointerPlace, childAddress, childRecords}
+use Rattle.btree_v2_internal.specs.Internal.{Source, pointerPlace, childAddress}
+use Rattle.btree_v2_collect.specs.InFile.{childrenBytes, treeBytes, ChildSound, ChildrenSound, Sound}
 use Rattle.btree_v2_collect.proofs.Puts.{tally, sum, Puts, puts-then, puts-none, puts-record, puts-records}
-
--- The records' bytes of a tree in a file.
-module _ (s : Source) where
-  module _ (d a n : ℕ) (bytes : Tree d → ℕ → List ℕ) where
-    -- Those of the children from child i on, and of the node's own records between them.
-    unfoldable pub childrenBytes : Kids (Tree d) → ℕ → List ℕ
-    childrenBytes (last t) i = bytes t (childAddress s (pointerPlace s d a n i))
-    childrenBytes (more t ts) i =
-        bytes t (childAddress s (pointerPlace s d a n i)) ++ (part (s .file) (a + 6 + i * s .rs) (s .rs) ++ childrenBytes ts (i + 1))
-
-  unfoldable pub treeBytes : (d : ℕ) → Tree d → ℕ → List ℕ
-  treeBytes zero n a = part (s .file) (a + 6) (n * s .rs)
-  treeBytes (suc d) ts a = childrenBytes d a (between ts) (treeBytes d) ts 0
-
--- Every node passes its tests and its records are there, and every pointer leads to its child.
-module _ (s : Source) (tests : Tests) where
-  pub record NodeSound (answer : Answer) (a n : ℕ) : Type 0 where
-    pub passes : answer ≡ accepted []
-    pub there : a + 6 + n * s .rs ≤ length (s .file)
-
-  module _ (d a n : ℕ) (sound : Tree d → ℕ → Type 0) where
-    pub record ChildSound (t : Tree d) (i : ℕ) : Type 0 where
-      pub records : childRecords s (pointerPlace s d a n i) ≡ count d t
-      pub node : sound t (childAddress s (pointerPlace s d a n i))
-      pub after : tests .child d (pointerPlace s d a n i) (size d t) ≡ accepted []
-
-    abbrev pub ChildrenSound : Kids (Tree d) → ℕ → Type 0
-    ChildrenSound (last t) i = ChildSound t i
-    ChildrenSound (more t ts) i = ChildSound t i × ChildrenSound ts (i + 1)
-
-  abbrev pub Sound : (d : ℕ) → Tree d → ℕ → Type 0
-  Sound zero n a = NodeSound (tests .leaf a n) a n
-  Sound (suc d) ts a =
-      NodeSound (tests .internal d a (between ts)) a (between ts) × ChildrenSound d a (between ts) (Sound d) ts 0
 
 -- What the walk counts of a tree.
 abbrev pub treeTally : (d : ℕ) → Tree d → Counts

@@ -1,22 +1,22 @@
 -- The collector's steps, one after another: one law for each way out of them, in the forms in which the code has it.
 use mathlib.Core.Path.{_≡_, refl, sym, ap, fun-ext, _∙_}
-use mathlib.Core.List.{List, []}
+use mathlib.Core.List.{List}
 use Prim.Native.Nat.{ℕ, zero, suc, _+_, _-_, _*_, _/_, _<_}
 use native.Mathlib.Nat.{zero-add, add-zero, suc-add}
 use native.Mathlib.Omega.{arith}
+use lib.ListN.{getD}
 use Rattle.refusal.specs.declared.Refusal.{Refusal}
-use Rattle.refusal.specs.Answer.{Answer, accepted, verdictOf}
+use Rattle.refusal.specs.Answer.{Answer, verdictOf}
 use Rattle.btree_v2_collect.specs.Walk.{Counts, Run, fine, stopped, andThen, ifPassed, oneLeaf, oneInternal, oneInner, Tests, putRecord, putRecords, leafRun, childRun, innerRun, childrenRun, nodeRun}
-use Rattle.btree_v2_internal.specs.Internal.{Source, pointerPlace, childAddress, childRecords, internalTest}
-use Rattle.btree_v2_leaf.specs.Leaf.{leafTest}
-use Rattle.btree_v2_collect.specs.Collect.{collectTests}
+use Rattle.btree_v2_internal.specs.Internal.{Source, pointerPlace}
 use Rattle.refusal.specs.declared.Verdict.{Verdict}
 use Rattle.refusal.specs.declared.Verdict.the-variants.{Accepted, Refused}
 use Rattle.btree_v2_collect.specs.declared.collect.TreeSizes.{TreeSizes}
 use Rattle.btree_v2_internal.specs.declared.Node.{Node}
-use Rattle.btree_v2_collect.specs.Collecting.{countsOf, runOf, heldCounts, heldRun, sourceAt, testsAt, Readable, Within, ChildrenLeft, Walked, nodeWalk, innerWalk, childrenWalk}
+use Rattle.btree_v2_collect.specs.Collecting.{countsOf, runOf, heldCounts, heldRun, sourceAt, Readable, Within, ChildAt, ChildrenLeft, Walked, nodeWalk, innerWalk, childrenWalk}
 use Rattle.refusal.proofs.Answers.{refused-is}
-use Rattle.btree_v2_collect.proofs.Holding.{Alike, from-held, records-held, alike-after, count-alike, puts-alike, inner-alike, children-alike, node-alike}
+use Rattle.btree_v2_collect.proofs.Holding.{Alike, from-held, records-held, alike-after, count-alike, puts-alike, after-alike, inner-alike, children-alike}
+use Rattle.btree_v2_collect.proofs.Walking.{Step}
 
 -- Counting a leaf or an internal node puts nothing out.
 pub leaf-within : (z : TreeSizes) (t t1 o : List ℕ) → heldCounts (countsOf t1) ≡ heldCounts (oneLeaf (countsOf t)) → Within z t o → Within z t1 o
@@ -27,10 +27,10 @@ pub internal-within : (z : TreeSizes) (t t1 o : List ℕ) → heldCounts (counts
 internal-within z t t1 o e h = rw (records-held (oneInternal (countsOf t)) (countsOf t1) e) h
 
 -- A step, and what follows it.
-module _ (next : Counts → List ℕ → Run) (alike : Alike next) {z : TreeSizes} {x : Run} {v : Verdict} {t o : List ℕ} (walked : Walked z x v t o) where
+module _ {next : Step} (alike : Alike next) {z : TreeSizes} {x : Run} {v : Verdict} {t o : List ℕ} (walked : Walked z x v t o) where
   after : heldRun (andThen x next) ≡ heldRun (andThen (runOf v t o) next)
   after =
-      sym (alike-after next alike x) ∙ ap (λ y. heldRun (andThen y next)) (sym (walked .ends)) ∙ alike-after next alike (runOf v t o)
+      sym (alike-after alike x) ∙ ap (λ y. heldRun (andThen y next)) (sym (walked .ends)) ∙ alike-after alike (runOf v t o)
 
   go-on : v ≡ Accepted → heldRun (andThen x next) ≡ heldRun (next (countsOf t) o)
   go-on e = after ∙ rw e
@@ -56,10 +56,6 @@ walked-as e walked = record { ends = walked .ends ∙ e; within = walked .within
 -- An accepted answer, taken apart.
 pub walked-accepted : (z : TreeSizes) (x : Run) (v : Verdict) (t o : List ℕ) → v ≡ Accepted → Walked z x v t o → Walked z x Accepted t o
 walked-accepted z x v t o e walked = rw e at walked
-
-then-fine : (x : Run) → andThen x fine ≡ x
-then-fine (fine c o) = refl
-then-fine (stopped number values c o) = refl
 
 then-same : (x : Run) (next : Counts → List ℕ → Run) → ((c : Counts) (o : List ℕ) → next c o ≡ fine c o) → andThen x next ≡ x
 then-same (fine c o) next h = h c o
@@ -106,89 +102,107 @@ falling depth left = depth * 65537 + left
 pub first-falls : (k d left : ℕ) → falling d left ≡ k → 0 < left → falling d (left / 2) < k
 first-falls k d left e some = omega arith
 
-module _ (file : List ℕ) (z : TreeSizes) where
+-- The first half of the children is asked as all of them are.
+pub first-asked : (file : List ℕ) (z : TreeSizes) (l : List ℕ) (d a n i left : ℕ) (t o : List ℕ) → ChildrenLeft file z l d a n i left t o
+    → (left ≡ 1 → ⊥) → ChildrenLeft file z l d a n i (left / 2) t o
+first-asked file z l d a n i left t o h more =
+    record {
+      readable = h .readable;
+      there = h .there;
+      among = omega (arith, h .among);
+      some = omega (arith, h .some);
+      within = h .within;
+    }
+
+-- The walk by any tests; what the code tells of a test is its verdict.
+module _ (file : List ℕ) (z : TreeSizes) (tests : Tests) where
   abbrev s : Source
   s = sourceAt file z
 
-  abbrev tests : Tests
-  tests = testsAt file z
-
   -- A leaf.
-  module _ (x : Node) (t o : List ℕ) (v : Verdict) (tested : verdictOf v ≡ leafTest file (z .«record_size») (x .address) (x .records)) where
+  module _ (x : Node) (t o : List ℕ) (v : Verdict) (tested : verdictOf v ≡ tests .leaf (x .address) (x .records)) where
     pub leaf-stops : (q : Refusal) → v ≡ Refused q → Within z t o
-        → Walked z (nodeWalk file z 0 (x .address) (x .records) (countsOf t) o) v t o
-    unfolding nodeWalk nodeRun leafRun collectTests sourceAt
+        → Walked z (nodeWalk file z tests 0 (x .address) (x .records) (countsOf t) o) v t o
+    unfolding nodeWalk nodeRun leafRun
     leaf-stops q e within = record { ends = sym (ap heldRun (test-stops _ v t o _ q tested e)); within = within }
 
     pub leaf-reads : (t1 : List ℕ) (v1 : Verdict) (t2 o1 : List ℕ) → v ≡ Accepted → heldCounts (countsOf t1) ≡ heldCounts (oneLeaf (countsOf t))
         → Walked z (putRecords s (x .records) (x .address + 6) (countsOf t1) o) v1 t2 o1
-        → Walked z (nodeWalk file z 0 (x .address) (x .records) (countsOf t) o) v1 t2 o1
-    unfolding nodeWalk nodeRun leafRun collectTests sourceAt
+        → Walked z (nodeWalk file z tests 0 (x .address) (x .records) (countsOf t) o) v1 t2 o1
+    unfolding nodeWalk nodeRun leafRun
     leaf-reads t1 v1 t2 o1 e counts =
         walked-as
-        (from-held (putRecords s (x .records) (x .address + 6)) (puts-alike s (x .records) (x .address + 6)) (oneLeaf (countsOf t)) (countsOf t1) o counts
+        (from-held (puts-alike s (x .records) (x .address + 6)) (oneLeaf (countsOf t)) (countsOf t1) o counts
         ∙ ap heldRun (sym (test-passes _ v (countsOf t) o _ tested e)))
 
   -- A node of level d.
   module _ (d a n : ℕ) (t o : List ℕ) where
-    pub node-leaf : (v : Verdict) (t1 o1 : List ℕ) → d ≡ 0 → Walked z (nodeWalk file z 0 a n (countsOf t) o) v t1 o1
-        → Walked z (nodeWalk file z d a n (countsOf t) o) v t1 o1
+    pub node-leaf : (v : Verdict) (t1 o1 : List ℕ) → d ≡ 0 → Walked z (nodeWalk file z tests 0 a n (countsOf t) o) v t1 o1
+        → Walked z (nodeWalk file z tests d a n (countsOf t) o) v t1 o1
     node-leaf v t1 o1 e walked = rw e walked
 
-    module _ (v : Verdict) (above : d ≡ 0 → ⊥) (tested : verdictOf v ≡ internalTest s (d - 1) a n) where
-      internal-is : nodeWalk file z d a n (countsOf t) o
-          ≡ ifPassed (verdictOf v) (countsOf t) o (childrenWalk file z (d - 1) a n n 0 (oneInternal (countsOf t)) o)
-      unfolding nodeWalk childrenWalk nodeRun collectTests
+    module _ (v : Verdict) (above : d ≡ 0 → ⊥) (tested : verdictOf v ≡ tests .internal (d - 1) a n) where
+      internal-is : nodeWalk file z tests d a n (countsOf t) o
+          ≡ ifPassed (verdictOf v) (countsOf t) o (childrenWalk file z tests (d - 1) a n n 0 (oneInternal (countsOf t)) o)
+      unfolding nodeWalk childrenWalk nodeRun
       internal-is =
-          let f : d ≡ suc (d - 1) = omega arith in ap (λ k. nodeWalk file z k a n (countsOf t) o) f ∙ rw (← tested)
+          let f : d ≡ suc (d - 1) = omega arith in ap (λ k. nodeWalk file z tests k a n (countsOf t) o) f ∙ rw (← tested)
 
-      pub node-stops : (q : Refusal) → v ≡ Refused q → Within z t o → Walked z (nodeWalk file z d a n (countsOf t) o) v t o
+      pub node-stops : (q : Refusal) → v ≡ Refused q → Within z t o → Walked z (nodeWalk file z tests d a n (countsOf t) o) v t o
       node-stops q e within =
           record { ends = sym (ap heldRun (internal-is ∙ test-stops _ v t o _ q refl e)); within = within }
 
       module _ (e : v ≡ Accepted) where
-        pub node-passed : internalTest s (d - 1) a n ≡ accepted []
-        node-passed = sym tested ∙ ap verdictOf e
-
         pub node-reads : (t1 : List ℕ) (v1 : Verdict) (t2 o1 : List ℕ) → heldCounts (countsOf t1) ≡ heldCounts (oneInternal (countsOf t))
-            → Walked z (childrenWalk file z (d - 1) a n (n + 1 - 1) 0 (countsOf t1) o) v1 t2 o1
-            → Walked z (nodeWalk file z d a n (countsOf t) o) v1 t2 o1
+            → Walked z (childrenWalk file z tests (d - 1) a n (n + 1 - 1) 0 (countsOf t1) o) v1 t2 o1
+            → Walked z (nodeWalk file z tests d a n (countsOf t) o) v1 t2 o1
         unfolding childrenWalk
         node-reads t1 v1 t2 o1 counts walked =
             let f : n + 1 - 1 ≡ n = omega arith in
             walked-as
-            (from-held (childrenWalk file z (d - 1) a n n 0) (children-alike s tests (d - 1) a n _ (node-alike s tests (d - 1)) n 0) (oneInternal (countsOf t)) (countsOf t1) o counts
+            (from-held (children-alike s tests (d - 1) a n n 0) (oneInternal (countsOf t)) (countsOf t1) o counts
             ∙ ap heldRun (sym (internal-is ∙ test-passes _ v (countsOf t) o _ refl e)))
             (rw f at walked)
 
   -- Children of an internal node, `left` of them from child i on.
   module _ (d a n i left : ℕ) (t o : List ℕ) where
     abbrev Reads : Verdict → List ℕ → List ℕ → Type 0
-    Reads = Walked z (childrenWalk file z d a n (left - 1) i (countsOf t) o)
+    Reads = Walked z (childrenWalk file z tests d a n (left - 1) i (countsOf t) o)
 
-    -- One.
-    pub one-reads : (b : Node)
-        → (b .address ≡ childAddress s (pointerPlace s d a n i)) × (b .records ≡ childRecords s (pointerPlace s d a n i))
-        → (v : Verdict) (t1 o1 : List ℕ) → left ≡ 1 → Walked z (nodeWalk file z d (b .address) (b .records) (countsOf t) o) v t1 o1 → Reads v t1 o1
-    unfolding nodeWalk childrenWalk childrenRun childRun collectTests
-    one-reads b pointer v t1 o1 e walked =
-        let same : nodeWalk file z d (b .address) (b .records) (countsOf t) o ≡ childrenWalk file z d a n 0 i (countsOf t) o =
-        rw (pointer .0, pointer .1) (sym (then-fine _))
-        in
-        rw e (walked-as (ap heldRun same) walked)
+    -- One, and the test after it: by its pointer's place and the records that it put out.
+    module _ (child : Node) (pointer : ChildAt s d a n i child) (one : left ≡ 1) (v : Verdict) (t1 o1 : List ℕ)
+        (walked : Walked z (nodeWalk file z tests d (child .address) (child .records) (countsOf t) o) v t1 o1) where
+      abbrev after-child : Step
+      after-child c o = ifPassed (tests .child d (pointerPlace s d a n i) (c .records - getD t 0 0)) c o (fine c o)
+
+      child-is : andThen (nodeWalk file z tests d (child .address) (child .records) (countsOf t) o) after-child
+          ≡ childrenWalk file z tests d a n (left - 1) i (countsOf t) o
+      unfolding nodeWalk childrenWalk childrenRun childRun
+      child-is = rw (pointer .address, pointer .records, one)
+
+      pub child-stops : (q : Refusal) → v ≡ Refused q → Reads v t1 o1
+      child-stops q e = walked-as (ap heldRun child-is) (hand-up (after-alike tests d _ _) walked q e)
+
+      pub child-tested : v ≡ Accepted → (w : Verdict)
+          → verdictOf w ≡ tests .child d (pointerPlace s d a n i) (getD t1 0 0 - getD t 0 0) → Reads w t1 o1
+      child-tested e w told =
+          record {
+            ends = rw told (sym (go-on (after-alike tests d _ _) walked e)) ∙ ap heldRun child-is;
+            within = walked .within;
+          }
 
     -- More: the first half, the record between and the second half.
     abbrev first-half : Run
-    first-half = childrenWalk file z d a n (left / 2 - 1) i (countsOf t) o
+    first-half = childrenWalk file z tests d a n (left / 2 - 1) i (countsOf t) o
 
     abbrev record-between : Counts → List ℕ → Run
-    record-between = innerWalk file z d a n (i + left / 2 - 1)
+    record-between = innerWalk file z tests d a n (i + left / 2 - 1)
 
     abbrev second-half : Counts → List ℕ → Run
-    second-half = childrenWalk file z d a n (left - left / 2 - 1) (i + left / 2)
+    second-half = childrenWalk file z tests d a n (left - left / 2 - 1) (i + left / 2)
 
     halves : 0 < left → (left ≡ 1 → ⊥)
-        → andThen (andThen first-half record-between) second-half ≡ childrenWalk file z d a n (left - 1) i (countsOf t) o
+        → andThen (andThen first-half record-between) second-half ≡ childrenWalk file z tests d a n (left - 1) i (countsOf t) o
     unfolding childrenWalk innerWalk
     halves some more =
         let e : left - 1 ≡ left / 2 - 1 + suc (left - left / 2 - 1) = omega arith in
@@ -198,29 +212,19 @@ module _ (file : List ℕ) (z : TreeSizes) where
 
     record-alike : Alike record-between
     unfolding innerWalk
-    record-alike = inner-alike s tests d a n _ (node-alike s tests d) (i + left / 2 - 1)
+    record-alike = inner-alike s tests d a n (i + left / 2 - 1)
 
     half-alike : Alike second-half
     unfolding childrenWalk
-    half-alike = children-alike s tests d a n _ (node-alike s tests d) (left - left / 2 - 1) (i + left / 2)
+    half-alike = children-alike s tests d a n (left - left / 2 - 1) (i + left / 2)
 
     pub first-stops : 0 < left → (left ≡ 1 → ⊥) → (v : Verdict) (t1 o1 : List ℕ) → Walked z first-half v t1 o1 → (q : Refusal) → v ≡ Refused q
         → Reads v t1 o1
     first-stops some more v t1 o1 first q e =
         walked-as (ap heldRun (halves some more))
-        (hand-up second-half half-alike (hand-up record-between record-alike first q e) q e)
+        (hand-up half-alike (hand-up record-alike first q e) q e)
 
     module _ (l : List ℕ) where
-      pub first-asked : ChildrenLeft file z l d a n i left t o → (left ≡ 1 → ⊥) → ChildrenLeft file z l d a n i (left / 2) t o
-      first-asked h more =
-          record {
-            readable = h .readable;
-            passed = h .passed;
-            among = omega (arith, h .among);
-            some = omega (arith, h .some);
-            within = h .within;
-          }
-
       -- Children are left after x, a part of their walk that is accepted.
       pub record PartRead (x : Run) : Type 0 where
         pub asked : ChildrenLeft file z l d a n i left t o
@@ -240,37 +244,37 @@ module _ (file : List ℕ) (z : TreeSizes) where
   module _ (d : ℕ) (x : Node) (i : ℕ) (t o : List ℕ) (v : Verdict) (t1 o1 : List ℕ)
       (put : Walked z (putRecords s 1 (x .address + 6 + i * z .«record_size») (countsOf t) o) v t1 o1) where
     inner-is : andThen (putRecords s 1 (x .address + 6 + i * z .«record_size») (countsOf t) o) (λ c o. fine (oneInner c) o)
-        ≡ innerWalk file z d (x .address) (x .records) i (countsOf t) o
+        ≡ innerWalk file z tests d (x .address) (x .records) i (countsOf t) o
     unfolding innerWalk innerRun putRecords sourceAt
     inner-is =
         ap (λ y. andThen y (λ c o. fine (oneInner c) o))
         (then-same (putRecord s (x .address + 6 + i * z .«record_size») (countsOf t) o) _ (λ c o. refl))
 
-    pub inner-stops : (q : Refusal) → v ≡ Refused q → Walked z (innerWalk file z d (x .address) (x .records) i (countsOf t) o) v t1 o1
-    inner-stops q e = walked-as (ap heldRun inner-is) (hand-up (λ c o. fine (oneInner c) o) count-alike put q e)
+    pub inner-stops : (q : Refusal) → v ≡ Refused q → Walked z (innerWalk file z tests d (x .address) (x .records) i (countsOf t) o) v t1 o1
+    inner-stops q e = walked-as (ap heldRun inner-is) (hand-up count-alike put q e)
 
     pub inner-puts : (t2 : List ℕ) → v ≡ Accepted → heldCounts (countsOf t2) ≡ heldCounts (oneInner (countsOf t1))
-        → Walked z (innerWalk file z d (x .address) (x .records) i (countsOf t) o) Accepted t2 o1
+        → Walked z (innerWalk file z tests d (x .address) (x .records) i (countsOf t) o) Accepted t2 o1
     inner-puts t2 e counts =
         record {
-          ends = ap (λ c. fine c o1) counts ∙ sym (sym (ap heldRun inner-is) ∙ go-on (λ c o. fine (oneInner c) o) count-alike put e);
+          ends = ap (λ c. fine c o1) counts ∙ sym (sym (ap heldRun inner-is) ∙ go-on count-alike put e);
           within = rw (records-held (oneInner (countsOf t1)) (countsOf t2) counts) (put .within);
         }
 
 -- From where the first half is read on.
-module _ {file : List ℕ} {z : TreeSizes} {d a n i left : ℕ} {t o l : List ℕ} where
+module _ {file : List ℕ} {z : TreeSizes} {tests : Tests} {d a n i left : ℕ} {t o l : List ℕ} where
   -- Record j, put out after the first half, is the one between.
-  module _ (first : FirstRead file z d a n i left t o l) (j : ℕ) (w : Verdict) (t2 o2 : List ℕ)
-      (put : Walked z (innerWalk file z d a n j (countsOf (first .tally)) (first .output)) w t2 o2) (between : j ≡ i + left / 2 - 1) where
-    pub two : Walked z (andThen (first-half file z d a n i left t o) (record-between file z d a n i left t o)) w t2 o2
-    two = walked-as (sym (go-on _ (record-alike file z d a n i left t o) (first .walked) refl)) (rw between at put)
+  module _ (first : FirstRead file z tests d a n i left t o l) (j : ℕ) (w : Verdict) (t2 o2 : List ℕ)
+      (put : Walked z (innerWalk file z tests d a n j (countsOf (first .tally)) (first .output)) w t2 o2) (between : j ≡ i + left / 2 - 1) where
+    pub two : Walked z (andThen (first-half file z tests d a n i left t o) (record-between file z tests d a n i left t o)) w t2 o2
+    two = walked-as (sym (go-on (record-alike file z tests d a n i left t o) (first .walked) refl)) (rw between at put)
 
-    pub record-stops : (q : Refusal) → w ≡ Refused q → Reads file z d a n i left t o w t2 o2
+    pub record-stops : (q : Refusal) → w ≡ Refused q → Reads file z tests d a n i left t o w t2 o2
     record-stops q e =
-        walked-as (ap heldRun (halves file z d a n i left t o (first .asked .some) (first .more)))
-        (hand-up _ (half-alike file z d a n i left t o) two q e)
+        walked-as (ap heldRun (halves file z tests d a n i left t o (first .asked .some) (first .more)))
+        (hand-up (half-alike file z tests d a n i left t o) two q e)
 
-    abbrev pub record-put : w ≡ Accepted → RecordPut file z d a n i left t o l
+    abbrev pub record-put : w ≡ Accepted → RecordPut file z tests d a n i left t o l
     record-put e =
         record {
           asked = first .asked;
@@ -280,12 +284,12 @@ module _ {file : List ℕ} {z : TreeSizes} {d a n i left : ℕ} {t o l : List �
           walked = walked-accepted z _ w t2 o2 e two;
         }
 
-  module _ (put : RecordPut file z d a n i left t o l) where
+  module _ (put : RecordPut file z tests d a n i left t o l) where
     pub second-asked : ChildrenLeft file z l d a n (i + left / 2) (left - left / 2) (put .tally) (put .output)
     second-asked =
         record {
           readable = put .asked .readable;
-          passed = put .asked .passed;
+          there = put .asked .there;
           among = omega (arith, put .asked .among);
           some = omega (arith, put .asked .some, put .more);
           within = put .walked .within;
@@ -295,11 +299,11 @@ module _ {file : List ℕ} {z : TreeSizes} {d a n i left : ℕ} {t o l : List �
     second-falls e = omega (arith, put .asked .some, put .more)
 
     pub second-reads : (u : Verdict) (t3 o3 : List ℕ)
-        → Walked z (second-half file z d a n i left t o (countsOf (put .tally)) (put .output)) u t3 o3 → Reads file z d a n i left t o u t3 o3
+        → Walked z (second-half file z tests d a n i left t o (countsOf (put .tally)) (put .output)) u t3 o3 → Reads file z tests d a n i left t o u t3 o3
     second-reads u t3 o3 =
         walked-as
-        (sym (go-on _ (half-alike file z d a n i left t o) (put .walked) refl)
-        ∙ ap heldRun (halves file z d a n i left t o (put .asked .some) (put .more)))
+        (sym (go-on (half-alike file z tests d a n i left t o) (put .walked) refl)
+        ∙ ap heldRun (halves file z tests d a n i left t o (put .asked .some) (put .more)))
 
 -- A level below.
 pub readable-under : (z : TreeSizes) (l : List ℕ) (d : ℕ) → Readable z l d → Readable z l (d - 1)

@@ -2,19 +2,21 @@
 -- and leaves.
 use Prim.Native.Nat.{ℕ, _+_, _*_, _≤_, _<_}
 use mathlib.Core.Path.{_≡_}
-use mathlib.Core.List.{List, []}
+use mathlib.Core.List.{List}
 use lib.ListN.{length, getD}
-use Rattle.numbers.specs.Numbers.{held}
+use mathlib.Core.Bool.{true}
+use Rattle.numbers.specs.Numbers.{held, fieldSize}
 use Rattle.node_info.specs.Capacity.{countWidth, totalWidth}
 use Rattle.btree_v2_collect.specs.Walk.{Counts, Run, fine, stopped, ifPassed, Tests, innerRun, childrenRun, nodeRun}
-use Rattle.btree_v2_internal.specs.Internal.{Source, internalTest}
+use Rattle.btree_v2_internal.specs.Internal.{Source, pointerPlace, childAddress, childRecords}
 use Rattle.btree_v2_collect.specs.Collect.{collectTests}
-use Rattle.refusal.specs.Answer.{accepted, verdictOf}
+use Rattle.refusal.specs.Answer.{verdictOf}
 use Rattle.refusal.specs.declared.Verdict.{Verdict}
 use Rattle.btree_v2_collect.specs.declared.Tally.{Tally}
 use Rattle.btree_v2_collect.specs.declared.collect.TreeSizes.{TreeSizes}
 use Rattle.btree_v2_header.specs.declared.BTreeV2Header.{BTreeV2Header}
 use Rattle.btree_v2_internal.specs.declared.Sizes.{Sizes}
+use Rattle.btree_v2_internal.specs.declared.Node.{Node}
 
 -- The counts of a tally of four numbers.
 abbrev pub countsOf : List ℕ → Counts
@@ -72,10 +74,20 @@ pub record Readable (z : TreeSizes) (l : List ℕ) (d : ℕ) : Type 0 where
 abbrev pub Within : TreeSizes → List ℕ → List ℕ → Type 0
 Within z t o = getD t 0 0 * z .«record_size» ≤ length o
 
+-- What the tests of an internal node at a with n records have shown where it is read on: its records are there, and offsets have one of the sizes.
+pub record NodeThere (s : Source) (a n : ℕ) : Type 0 where
+  pub rows : a + 6 + n * s .rs ≤ length (s .file)
+  pub offset : fieldSize (s .ow) ≡ true
+
+-- The child that pointer i of the internal node at a with n records leads to, where the children have level d.
+pub record ChildAt (s : Source) (d a n i : ℕ) (child : Node) : Type 0 where
+  pub address : child .address ≡ childAddress s (pointerPlace s d a n i)
+  pub records : child .records ≡ childRecords s (pointerPlace s d a n i)
+
 -- `left` children from child i on, of an internal node of level d + 1 at address a with n records that passed its tests.
 pub record ChildrenLeft (file : List ℕ) (z : TreeSizes) (l : List ℕ) (d a n i left : ℕ) (t o : List ℕ) : Type 0 where
   pub readable : Readable z l d
-  pub passed : internalTest (sourceAt file z) d a n ≡ accepted []
+  pub there : NodeThere (sourceAt file z) a n
   pub among : i + left ≤ n + 1
   pub some : 0 < left
   pub within : Within z t o
@@ -92,15 +104,16 @@ pub record Walked (z : TreeSizes) (x : Run) (v : Verdict) (t o : List ℕ) : Typ
   pub ends : heldRun (runOf v t o) ≡ heldRun x
   pub within : Within z t o
 
-module _ (file : List ℕ) (z : TreeSizes) where
-  -- The walk over the node of level d at address a with n records.
+-- The walk by these sizes and by any tests.
+module _ (file : List ℕ) (z : TreeSizes) (tests : Tests) where
+  -- Over the node of level d at address a with n records.
   unfoldable pub nodeWalk : ℕ → ℕ → ℕ → Counts → List ℕ → Run
-  nodeWalk = nodeRun (sourceAt file z) (testsAt file z)
+  nodeWalk = nodeRun (sourceAt file z) tests
 
-  -- The walk over record i, and over m + 1 children from child i on with the records between them, of such a node whose children have level d.
+  -- Over record i, and over m + 1 children from child i on with the records between them, of such a node whose children have level d.
   module _ (d a n : ℕ) where
     unfoldable pub innerWalk : ℕ → Counts → List ℕ → Run
-    innerWalk = innerRun (sourceAt file z) (testsAt file z) d a n (nodeRun (sourceAt file z) (testsAt file z) d)
+    innerWalk = innerRun (sourceAt file z) tests d a n (nodeRun (sourceAt file z) tests d)
 
     unfoldable pub childrenWalk : ℕ → ℕ → Counts → List ℕ → Run
-    childrenWalk = childrenRun (sourceAt file z) (testsAt file z) d a n (nodeRun (sourceAt file z) (testsAt file z) d)
+    childrenWalk = childrenRun (sourceAt file z) tests d a n (nodeRun (sourceAt file z) tests d)

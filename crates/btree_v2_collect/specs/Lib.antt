@@ -2,4 +2,5 @@
 pub mod Answers
 pub mod Collecting
 pub mod Walk
+pub mod InFile
 pub mod Collect

@@ -6,11 +6,10 @@ ghost use Prim.Native.Nat.{ℕ, _+_, _-_, _*_, _^_, _≤_, _<_};
 ghost use lib.ListN.{length};
 ghost use Rattle.refusal.specs.Answer.{accepted, verdictOf};
 ghost use Rattle.btree_v2_collect.specs.Walk.{oneLeaf, oneInternal, oneInner, putRecords};
-ghost use Rattle.btree_v2_internal.specs.Internal.{pointerPlace, childAddress, childRecords, internalTest};
 ghost use Rattle.btree_v2_collect.specs.Collect.{collected, runCells, runOutput};
 ghost use Rattle.btree_v2_header.specs.Answers.{fieldsOf};
 ghost use Rattle.btree_v2_collect.specs.Answers.{collectedCells, Ends};
-ghost use Rattle.btree_v2_collect.specs.Collecting.{countsOf, tallyOf, heldCounts, sourceAt, Readable, Within, ChildrenLeft, RootRead, Walked, sizesAbove, nodeWalk, innerWalk, childrenWalk};
+ghost use Rattle.btree_v2_collect.specs.Collecting.{countsOf, tallyOf, heldCounts, sourceAt, testsAt, Readable, Within, NodeThere, ChildAt, ChildrenLeft, RootRead, Walked, sizesAbove, nodeWalk, innerWalk, childrenWalk};
 use crate::Collected;
 use crate::Tally;
 use btree_v2_header::BTreeV2Header;
@@ -98,7 +97,7 @@ fn collect_leaf(
     output: &mut [u8],
 ) -> Verdict
     requires { ⌜ (0 < sizes .«record_size») × (Within sizes (now tally) (now output)) ⌝ }
-    ensures { λ r. ⌜ Walked sizes (nodeWalk (now (file .entry)) sizes 0 (node .address) (node .records) (countsOf (now (tally .entry))) (now (output .entry))) r (now (tally .exit)) (now (output .exit)) ⌝ }
+    ensures { λ r. ⌜ Walked sizes (nodeWalk (now (file .entry)) sizes (testsAt (now (file .entry)) sizes) 0 (node .address) (node .records) (countsOf (now (tally .entry))) (now (output .entry))) r (now (tally .exit)) (now (output .exit)) ⌝ }
 {
     let verdict = btree_v2_leaf::check_leaf(file, node.address, node.records, sizes.record_size);
     let Verdict::Accepted = verdict else {
@@ -131,7 +130,7 @@ fn check_node(
     node: Node,
 ) -> Verdict
     requires { ⌜ Readable sizes (now «total_sizes») under ⌝ }
-    ensures { λ r. ⌜ verdictOf r ≡ internalTest (sourceAt (now (file .entry)) sizes) under (node .address) (node .records) ⌝ }
+    ensures { λ r. ⌜ verdictOf r ≡ testsAt (now (file .entry)) sizes .internal under (node .address) (node .records) ⌝ }
 {
     btree_v2_internal::check_internal(file, sizes_above(sizes, total_sizes, under), node)
 }
@@ -146,9 +145,9 @@ fn child_of(
     i: usize,
 ) -> Node
     requires { ⌜ Readable sizes (now «total_sizes») under ⌝ }
-    requires { ⌜ internalTest (sourceAt (now file) sizes) under (node .address) (node .records) ≡ accepted [] ⌝ }
+    requires { ⌜ NodeThere (sourceAt (now file) sizes) (node .address) (node .records) ⌝ }
     requires { ⌜ i ≤ node .records ⌝ }
-    ensures { λ r. ⌜ (r .address ≡ childAddress (sourceAt (now (file .entry)) sizes) (pointerPlace (sourceAt (now (file .entry)) sizes) under (node .address) (node .records) i)) × (r .records ≡ childRecords (sourceAt (now (file .entry)) sizes) (pointerPlace (sourceAt (now (file .entry)) sizes) under (node .address) (node .records) i)) ⌝ }
+    ensures { λ r. ⌜ ChildAt (sourceAt (now (file .entry)) sizes) under (node .address) (node .records) i r ⌝ }
 {
     let above = sizes_above(sizes, total_sizes, under);
     btree_v2_internal::read_pointer(file, above, node, i as u16)
@@ -164,9 +163,9 @@ fn put_inner(
     tally: &mut [u64; 4],
     output: &mut [u8],
 ) -> Verdict
-    requires { ⌜ internalTest (sourceAt (now file) sizes) under (node .address) (node .records) ≡ accepted [] ⌝ }
+    requires { ⌜ NodeThere (sourceAt (now file) sizes) (node .address) (node .records) ⌝ }
     requires { ⌜ (i < node .records) × (0 < sizes .«record_size») × (Within sizes (now tally) (now output)) ⌝ }
-    ensures { λ r. ⌜ Walked sizes (innerWalk (now (file .entry)) sizes under (node .address) (node .records) i (countsOf (now (tally .entry))) (now (output .entry))) r (now (tally .exit)) (now (output .exit)) ⌝ }
+    ensures { λ r. ⌜ Walked sizes (innerWalk (now (file .entry)) sizes (testsAt (now (file .entry)) sizes) under (node .address) (node .records) i (countsOf (now (tally .entry))) (now (output .entry))) r (now (tally .exit)) (now (output .exit)) ⌝ }
 {
     let from = node.address as usize + 6 + i * (sizes.record_size as usize);
     let verdict = put_records(file, sizes, from, 1, tally, output);
@@ -191,7 +190,7 @@ fn collect_node(
 ) -> Verdict
     requires { ⌜ Readable sizes (now «total_sizes») depth ⌝ }
     requires { ⌜ Within sizes (now tally) (now output) ⌝ }
-    ensures { λ r. ⌜ Walked sizes (nodeWalk (now (file .entry)) sizes depth address records (countsOf (now (tally .entry))) (now (output .entry))) r (now (tally .exit)) (now (output .exit)) ⌝ }
+    ensures { λ r. ⌜ Walked sizes (nodeWalk (now (file .entry)) sizes (testsAt (now (file .entry)) sizes) depth address records (countsOf (now (tally .entry))) (now (output .entry))) r (now (tally .exit)) (now (output .exit)) ⌝ }
 {
     let node = Node { address, records };
     if depth == 0 {
@@ -241,7 +240,7 @@ fn collect_children(
     output: &mut [u8],
 ) -> Verdict
     requires { ⌜ ChildrenLeft (now file) sizes (now «total_sizes») under address records i left (now tally) (now output) ⌝ }
-    ensures { λ r. ⌜ Walked sizes (childrenWalk (now (file .entry)) sizes under address records (left - 1) i (countsOf (now (tally .entry))) (now (output .entry))) r (now (tally .exit)) (now (output .exit)) ⌝ }
+    ensures { λ r. ⌜ Walked sizes (childrenWalk (now (file .entry)) sizes (testsAt (now (file .entry)) sizes) under address records (left - 1) i (countsOf (now (tally .entry))) (now (output .entry))) r (now (tally .exit)) (now (output .exit)) ⌝ }
 {
     let node = Node { address, records };
     let mut read = Verdict::Accepted;

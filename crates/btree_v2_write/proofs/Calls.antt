@@ -21,16 +21,15 @@ use Rattle.node_info.proofs.Columns.{total-entry, subtree-entry}
 use Rattle.plan.specs.declared.BTreeV2Plan.{BTreeV2Plan}
 use Rattle.plan.specs.declared.PlanAnswer.{PlanAnswer}
 use Rattle.plan.specs.declared.PlanAnswer.the-variants as plan-answer
-use Rattle.plan.specs.Tree.{Tree, count, nodes, below}
+use Rattle.plan.specs.Tree.{Tree, count, nodes, below, Everywhere}
 use Rattle.plan.specs.Planned.{planned, planFigures, planAnswerOf}
 use Rattle.plan.proofs.Accepted.{planned-none, planned-size}
-use Rattle.plan.proofs.Trees.{Everywhere}
 use Rattle.plan.proofs.Checks.{Plannable, accepted-plannable}
 use Rattle.plan.proofs.Depths.{depth-le, depth-small}
 use Rattle.format.specs.Bytes.{Form, address, headerBytes, image}
 use Rattle.format.specs.Request.{Request, formOf, depthOf, nodesOf, imageOf, rootOf, rootRecordsOf, headerOf}
 use Rattle.write_checks.specs.Writing.{written, headerExit, imageExit}
-use Rattle.format.proofs.Lengths.{Fit}
+use Rattle.format.specs.Fit.{Fit}
 use Rattle.write_checks.proofs.Accepted.{Accepts, Roomy, accepts, roomy, plan-accepted}
 use Rattle.write_checks.proofs.Fitting.{fits}
 use Rattle.format.proofs.HeaderLengths.{length-headerOf}

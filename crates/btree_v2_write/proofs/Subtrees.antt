@@ -14,15 +14,15 @@ use Rattle.numbers.specs.Numbers.{pick}
 use Rattle.numbers.specs.Places.{stored}
 use Rattle.numbers.proofs.Lists.{stored-nil, length-stored}
 use Rattle.node_info.proofs.Capacities.{total-le}
-use Rattle.plan.specs.Tree.{Tree, sumKids, between, nodes, below, count, size}
+use Rattle.plan.specs.Tree.{Tree, sumKids, between, nodes, below, count, size, AllKids, Everywhere}
 use Rattle.plan.specs.Planned.{taken, children, kidsOf, planTree, thin}
 use Rattle.plan.proofs.Dealing.{share, extra, taken-le, taken-pos, extra-lt, children-some}
 use Rattle.plan.proofs.Lists.{sumOf, AllOf, sumKids-of}
 use Rattle.plan.proofs.Plans.{plan-size, plan-count}
-use Rattle.plan.proofs.Trees.{AllKids, Everywhere}
 use Rattle.plan.proofs.Thin.{thin-children, thin-pos}
 use Rattle.format.specs.Bytes.{padded, leafBytes, image}
-use Rattle.format.proofs.Lengths.{Fit, length-image, length-children}
+use Rattle.format.specs.Fit.{Fit}
+use Rattle.format.proofs.Lengths.{length-image, length-children}
 use Rattle.btree_v2_stamp.specs.declared.Layout.{Layout}
 use Rattle.btree_v2_stamp.specs.Layouts.{formAt}
 use Rattle.btree_v2_write.specs.declared.node.Child.{Child}

@@ -6,11 +6,10 @@ use Prim.Native.Nat.{ℕ, _+_, _*_, _^_, _≤_, _<_}
 use lib.ListN.{getD}
 use Rattle.numbers.specs.Places.{stored}
 use Rattle.node_info.specs.Capacity.{subtreeCapacity, totalWidth}
-use Rattle.plan.specs.Tree.{Tree, count, size, nodes}
+use Rattle.plan.specs.Tree.{Tree, count, size, nodes, Everywhere}
 use Rattle.plan.specs.Planned.{planTree, thin}
-use Rattle.plan.proofs.Trees.{Everywhere}
 use Rattle.format.specs.Bytes.{image}
-use Rattle.format.proofs.Lengths.{Fit}
+use Rattle.format.specs.Fit.{Fit}
 use Rattle.btree_v2_stamp.specs.declared.Layout.{Layout}
 use Rattle.btree_v2_write.specs.declared.node.Child.{Child}
 use Rattle.btree_v2_stamp.specs.Layouts.{formAt}

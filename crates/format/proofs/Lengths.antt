@@ -1,31 +1,16 @@
 -- The lengths of the parts of an image.
 use mathlib.Core.Path.{_≡_}
 use mathlib.Core.List.{List, _++_}
-use Prim.Native.Nat.{ℕ, zero, suc, _+_, _*_, _^_, _≤_, _<_}
+use Prim.Native.Nat.{ℕ, zero, suc, _+_, _*_, _≤_}
 use native.Mathlib.Nat.{add-mul, zero-mul}
 use native.Mathlib.Omega.{arith}
 use lib.ListN.{length, length-append, length-replicate}
 use lib.Seq.{take-all}
 use Rattle.numbers.proofs.Lists.{length-part, part-add}
 use Rattle.numbers.proofs.Numbers.{le-length}
-use Rattle.plan.specs.Tree.{Kids, last, more, Tree, sumKids, between, count, size, below, nodes}
-use Rattle.plan.proofs.Trees.{AllKids, Everywhere}
+use Rattle.plan.specs.Tree.{Kids, last, more, Tree, sumKids, between, count, size, below, nodes, AllKids, Everywhere}
 use Rattle.format.specs.Bytes.{Form, summed, padded, pointerBytes, rows, leafBytes, pointer, pointers, ownRows, internalBytes, kidsImage, image}
-
--- The bytes of a pointer to a child of level d, and of a node of k records.
-abbrev pub pointerLength : Form → ℕ → ℕ
-pointerLength g d = g .ow + g .cw + g .tw d
-
-abbrev pub nodeLength : Form → ℕ → ℕ → ℕ
-nodeLength g zero k = 10 + k * g .rs
-nodeLength g (suc d) k = 10 + k * g .rs + (k + 1) * pointerLength g d
-
--- A node fits the node size; its record count, and the total of its subtree unless it is a leaf, fit the fields of the pointer to it.
-pub record Fit (g : Form) (u : ℕ) (t : Tree u) : Type 0 where
-  pub node : nodeLength g u (count u t) ≤ g .ns
-  pub records : count u t < 256 ^ g .cw
-  pub small : count u t < 65536
-  pub total : 0 < u → size u t < 256 ^ g .tw u
+use Rattle.format.specs.Fit.{pointerLength, Fit}
 
 pub length-summed : (b : List ℕ) → length (summed b) ≡ length b + 4
 unfolding summed

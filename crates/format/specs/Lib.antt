@@ -1,3 +1,4 @@
 -- The definitions that the writer's and the readers' contracts cite.
 pub mod Bytes
+pub mod Fit
 pub mod Request

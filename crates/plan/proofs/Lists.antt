@@ -6,9 +6,8 @@ use native.Mathlib.Nat.{zero-mul, suc-mul, not-suc-le-zero}
 use native.Mathlib.Omega.{arith}
 use lib.ListN.{length, getD, replicate, length-append, length-replicate, getD-replicate, List·getD-append}
 use lib.Seq.{getD-append-add}
-use Rattle.plan.specs.Tree.{sumKids, between}
+use Rattle.plan.specs.Tree.{sumKids, between, AllKids}
 use Rattle.plan.specs.Planned.{kidsOf}
-use Rattle.plan.proofs.Trees.{AllKids}
 
 -- The sum of f over a list.
 unfoldable pub sumOf : (ℕ → ℕ) → List ℕ → ℕ

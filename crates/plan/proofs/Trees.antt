@@ -1,13 +1,8 @@
--- Laws of trees by their numbers of records, by induction on the depth; and what holds of every child and at every node.
+-- Laws of trees by their numbers of records, by induction on the depth; and laws of what holds of every child and at every node.
 use mathlib.Core.Path.{_≡_, refl}
 use Prim.Native.Nat.{ℕ, zero, suc, _+_, _≤_}
 use native.Mathlib.Omega.{arith}
-use Rattle.plan.specs.Tree.{Kids, last, more, Tree, sumKids, between, count, size, below, nodes, leaves, internals, inner}
-
--- Every child has the property.
-abbrev pub AllKids : {A : Type 0} → (A → Type 0) → Kids A → Type 0
-AllKids P (last t) = P t
-AllKids P (more t ts) = P t × AllKids P ts
+use Rattle.plan.specs.Tree.{Kids, last, more, Tree, sumKids, between, count, size, below, nodes, leaves, internals, inner, AllKids, Everywhere}
 
 module _ {A : Type 0} where
   pub all-kids : (P : A → Type 0) → ((t : A) → P t) → (ts : Kids A) → AllKids P ts
@@ -61,11 +56,6 @@ unfolding nodes below leaves internals
 nodes-kinds zero n = refl
 nodes-kinds (suc d) ts =
     omega (arith, sumKids-cong (λ t. below d t + 1) (λ t. leaves d t + internals d t) ts (all-kids _ (nodes-kinds d) ts), sumKids-add (leaves d) (internals d) ts)
-
--- The property holds at every node; it is told the node's level and the subtree.
-abbrev pub Everywhere : ((u : ℕ) → Tree u → Type 0) → (d : ℕ) → Tree d → Type 0
-Everywhere P zero n = P zero n
-Everywhere P (suc d) ts = P (suc d) ts × AllKids (Everywhere P d) ts
 
 pub everywhere-root : (P : (u : ℕ) → Tree u → Type 0) (d : ℕ) (t : Tree d) → Everywhere P d t → P d t
 everywhere-root P zero n e = e

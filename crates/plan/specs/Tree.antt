@@ -53,3 +53,13 @@ internals (suc d) ts = sumKids (internals d) ts + 1
 unfoldable pub inner : (d : ℕ) → Tree d → ℕ
 inner zero n = 0
 inner (suc d) ts = sumKids (inner d) ts + between ts
+
+-- Every child has the property.
+abbrev pub AllKids : {A : Type 0} → (A → Type 0) → Kids A → Type 0
+AllKids P (last t) = P t
+AllKids P (more t ts) = P t × AllKids P ts
+
+-- The property holds at every node; it is told the node's level and the subtree.
+abbrev pub Everywhere : ((u : ℕ) → Tree u → Type 0) → (d : ℕ) → Tree d → Type 0
+Everywhere P zero n = P zero n
+Everywhere P (suc d) ts = P (suc d) ts × AllKids (Everywhere P d) ts

@@ -13,7 +13,7 @@ use Rattle.refusal.specs.Answer.{accepted}
 use Rattle.plan.specs.Tree.{size}
 use Rattle.plan.proofs.Trees.{leaves-inner, nodes-kinds, nodes-le-size}
 use Rattle.format.specs.Bytes.{address}
-use Rattle.btree_v2_collect.specs.Walk.{fine, noCounts, nodeRun}
+use Rattle.btree_v2_collect.specs.Walk.{fine, noCounts, Tests, nodeRun}
 use Rattle.format.specs.Request.{Request, formOf, depthOf, nodesOf, imageOf, rootOf, rootRecordsOf}
 use Rattle.btree_v2_header.specs.Header.{headerFigures, parsed}
 use Rattle.btree_v2_collect.specs.Collect.{collectTests, sourceOf, collected}
@@ -21,7 +21,7 @@ use Rattle.round_trip.specs.Return.{headerWritten, Returned}
 use Rattle.write_checks.proofs.Accepted.{Accepts, root-fits}
 use Rattle.format.proofs.Lengths.{rows-all, length-image}
 use Rattle.btree_v2_collect.proofs.Sound.{treeTally}
-use Rattle.round_trip.proofs.Image.{sourceFor, Imaged, collecting-passes, image-walks}
+use Rattle.round_trip.proofs.Image.{sourceFor, Passes, Imaged, collecting-passes, image-walks}
 use Rattle.write_checks.proofs.Fitting.{tree, positive, plan, sized, filled, fits, root-some, deep, room}
 
 module _ (q : Request) (recs : List ℕ) (a : Accepts q recs) (some : 1 ≤ q .n) where
@@ -32,27 +32,28 @@ module _ (q : Request) (recs : List ℕ) (a : Accepts q recs) (some : 1 ≤ q .n
     imaged =
         let e : address (formOf q) (q .start) 0 ≡ q .start = omega arith in
         record {
-          fits = (fits q recs a some);
-          room = (room q recs a some);
+          fits = fits q recs a some;
+          room = room q recs a some;
           reach = rw zero-add (root-fits q recs a);
           stands = rw (length-image (formOf q) (q .start) recs (depthOf q) (tree q) 0 0 (fits q recs a some) (room q recs a some), e) stands;
         }
 
-    walks : nodeRun (sourceFor (formOf q) file) (collectTests (sourceFor (formOf q) file)) (depthOf q) (rootOf q) (rootRecordsOf q) noCounts out
+    -- By any tests that what was written passes.
+    pub walks : (tests : Tests) → Passes (formOf q) (q .start) recs file tests
+        → nodeRun (sourceFor (formOf q) file) tests (depthOf q) (rootOf q) (rootRecordsOf q) noCounts out
         ≡ fine (treeTally (depthOf q) (tree q)) (recs ++ drop (q .n * q .rs) out)
     unfolding rootOf rootRecordsOf formOf
-    walks =
-        let passes = collecting-passes (formOf q) (q .start) recs file lookup3-lt (a .offset) in
-        let w = image-walks (formOf q) (q .start) recs file (collectTests (sourceFor (formOf q) file)) passes (depthOf q) (tree q) 0 0 imaged noCounts out (rw (zero-add, (sized q recs a some)) long) in
+    walks tests passes =
+        let w = image-walks (formOf q) (q .start) recs file tests passes (depthOf q) (tree q) 0 0 imaged noCounts out (rw (zero-add, sized q recs a some) long) in
         let all = rows-all (formOf q) (q .start) recs (size (depthOf q) (tree q)) (rw (sized q recs a some) (a .records)) in
         simp (zero-add, zero-mul, all, stored-is, a .records) at w
 
     pub collects : collected file (headerWritten q) (q .ow) out ≡ fine (treeTally (depthOf q) (tree q)) (recs ++ drop (q .n * q .rs) out)
     unfolding collected headerWritten sourceOf formOf
     collects =
-        let root = (root-some q recs a some) in
+        let root = root-some q recs a some in
         rw (ne-eqb (q .n) 0 (λ e. omega arith), ne-eqb (rootRecordsOf q) 0 (λ e. omega arith), lt-ltb 0 (q .rs) (positive q (plan q recs a some)), le-leb (depthOf q) 32 (deep q recs a some))
-        walks
+        (walks (collectTests (sourceFor (formOf q) file)) (collecting-passes (formOf q) (q .start) recs file lookup3-lt (a .offset)))
 
     -- With the header read back, all is returned.
     pub returned : (o : ℕ) → parsed file o (q .ow) (q .lw) ≡ accepted (headerFigures (headerWritten q)) → Returned q recs file o out
@@ -62,7 +63,7 @@ module _ (q : Request) (recs : List ℕ) (a : Accepts q recs) (some : 1 ≤ q .n
           counts = treeTally (depthOf q) (tree q);
           header = h;
           output = collects;
-          records = (sized q recs a some);
+          records = sized q recs a some;
           leavesPlanned = refl;
           oneMore = leaves-inner (depthOf q) (tree q);
           allNodes = sym (nodes-kinds (depthOf q) (tree q));

@@ -13,8 +13,8 @@ use Rattle.numbers.specs.Numbers.{le, part, fieldSize}
 use Rattle.numbers.specs.Places.{stored}
 use Rattle.numbers.proofs.Numbers.{le-length}
 use Rattle.refusal.specs.Answer.{accepted}
-use Rattle.plan.specs.Tree.{Kids, last, more, Tree, sumKids, between, count, size, below, nodes}
-use Rattle.plan.proofs.Trees.{AllKids, Everywhere, everywhere-root}
+use Rattle.plan.specs.Tree.{Kids, last, more, Tree, sumKids, between, count, size, below, nodes, AllKids, Everywhere}
+use Rattle.plan.proofs.Trees.{everywhere-root}
 use Rattle.format.specs.Bytes.{Form, leafSignature, internalSignature, summed, padded, pointerBytes, address, rows, leafBytes, pointer, pointers, ownRows, internalBytes, kidsImage, image}
 use Rattle.btree_v2_collect.specs.Walk.{Counts, fine, Tests, nodeRun}
 use Rattle.btree_v2_internal.specs.Internal.{Source, pointerWidth, pointerPlace, childAddress, childRecords, internalBody, internalTest}
@@ -25,8 +25,10 @@ use Rattle.btree_v2_collect.proofs.Puts.{sum}
 use Rattle.read_checks.specs.Tests.{recordsEnd}
 use Rattle.read_checks.proofs.Passing.{front-passes}
 use Rattle.round_trip.proofs.Summed.{checksum-passes}
-use Rattle.format.proofs.Lengths.{pointerLength, Fit, Room, length-rows, rows-add, length-pointer, length-own, length-internal, length-image, length-children}
-use Rattle.btree_v2_collect.proofs.Sound.{between-one, ChildSound, ChildrenSound, Sound, childrenBytes, treeBytes, treeTally, puts-node}
+use Rattle.format.specs.Fit.{pointerLength, Fit}
+use Rattle.format.proofs.Lengths.{Room, length-rows, rows-add, length-pointer, length-own, length-internal, length-image, length-children}
+use Rattle.btree_v2_collect.specs.InFile.{childrenBytes, treeBytes, ChildSound, ChildrenSound, Sound}
+use Rattle.btree_v2_collect.proofs.Sound.{between-one, treeTally, puts-node}
 
 -- The file, read by the sizes and widths by which the image was made.
 abbrev pub sourceFor : Form → List ℕ → Source

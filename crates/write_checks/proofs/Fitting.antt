@@ -7,16 +7,17 @@ use native.Mathlib.Omega.{arith}
 use lib.ListN.{length}
 use Rattle.node_info.specs.Capacity.{leafCapacity, subtreeCapacity, nodeCapacity, pointerSize}
 use Rattle.node_info.proofs.Capacities.{node-le-leaf, count-fits, total-fits, leaf-bytes, internal-bytes}
-use Rattle.plan.specs.Tree.{Tree, count, size}
+use Rattle.plan.specs.Tree.{Tree, count, size, Everywhere}
 use Rattle.plan.specs.Planned.{planned}
 use Rattle.plan.proofs.Checks.{Plannable, accepted-plannable}
 use Rattle.plan.proofs.Plans.{plan-size, plan-filled}
 use Rattle.plan.proofs.Depths.{depth-le}
 use Rattle.plan.proofs.Accepted.{planned-within}
-use Rattle.plan.proofs.Trees.{Everywhere, everywhere-root, everywhere-both, Filled, Within}
+use Rattle.plan.proofs.Trees.{everywhere-root, everywhere-both, Filled, Within}
 use Rattle.format.specs.Request.{Request, formOf, depthOf, nodesOf, imageOf, rootRecordsOf}
 use Rattle.write_checks.proofs.Accepted.{Accepts}
-use Rattle.format.proofs.Lengths.{nodeLength, Fit, Room, length-image}
+use Rattle.format.specs.Fit.{nodeLength, Fit}
+use Rattle.format.proofs.Lengths.{Room, length-image}
 
 module _ (q : Request) where
   -- The capacities of a node and of a subtree by the level, and the planned tree.

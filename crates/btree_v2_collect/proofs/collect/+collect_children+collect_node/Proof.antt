@@ -5,7 +5,10 @@ use native.Mathlib.Omega.{arith}
 use borrow.Author.Needs.{needs}
 use borrow.Fn.Kinds.{In}
 use borrow.Fn.PlainCycle.{Measures, is, falls, and}
-use Rattle.btree_v2_collect.proofs.Steps.{node-leaf, node-stops, node-passed, node-reads, internal-within, readable-under, walked-accepted, falling, one-reads, first-falls, first-asked, first-stops, FirstRead, record-stops, record-put, RecordPut, second-falls, second-asked, second-reads}
+use Rattle.btree_v2_collect.specs.Collecting.{testsAt}
+use Rattle.btree_v2_collect.proofs.Nodes.{node-there, none-after}
+use Rattle.btree_v2_collect.proofs.Steps.{node-leaf, node-stops, node-reads, internal-within, readable-under, walked-accepted}
+use Rattle.btree_v2_collect.proofs.Steps.{falling, child-stops, child-tested, first-falls, first-asked, first-stops, FirstRead, record-stops, record-put, RecordPut, second-falls, second-asked, second-reads}
 use Rattle.btree_v2_collect.proofs.collect.collect_children.Reads as collect-children
 use Rattle.btree_v2_collect.proofs.collect.collect_children.Kinds as collect-children-kinds
 use Rattle.btree_v2_collect.proofs.collect.+collect_children+collect_node.Lts-collect_children as collect-children-lts
@@ -73,7 +76,7 @@ module _ (t : ℕ) where
 
   abbrev first : (c : AfterFirst)
       → let x = entry c .args in
-      FirstRead (x .file .now) (x .sizes) (x .under) (x .address) (x .records) (x .i) (x .left) (x .tally .now) (x .output .now) (x .total-sizes .now)
+      FirstRead (x .file .now) (x .sizes) (testsAt (x .file .now) (x .sizes)) (x .under) (x .address) (x .records) (x .i) (x .left) (x .tally .now) (x .output .now) (x .total-sizes .now)
   first c =
       record {
         asked = entry c .pre .1;
@@ -85,7 +88,7 @@ module _ (t : ℕ) where
 
   abbrev put : (c : AfterRecord)
       → let x = entry (first-of c) .args in
-      RecordPut (x .file .now) (x .sizes) (x .under) (x .address) (x .records) (x .i) (x .left) (x .tally .now) (x .output .now) (x .total-sizes .now)
+      RecordPut (x .file .now) (x .sizes) (testsAt (x .file .now) (x .sizes)) (x .under) (x .address) (x .records) (x .i) (x .left) (x .tally .now) (x .output .now) (x .total-sizes .now)
   put c = record-put (first (first-of c)) _ _ _ _ (c .before .before .before .before .put-inner .ensures) refl (c .enum-told5 .given .1)
 
 pub +collect-children+collect-node-spec : {M : Type 1} → statement M
@@ -102,9 +105,9 @@ pub +collect-children+collect-node-spec : {M : Type 1} → statement M
     (λ c. search needs)
     (λ c. search needs)
     (λ c. search needs)
-    (λ c. search (one-reads, one t (c .before .before .before .before .before .before .before .before)))
+    (λ c. search (child-stops, one t (c .before .before .before .before .before .before .before .before)))
     (λ c. search needs)
-    (λ c. search (walked-accepted, one-reads, one t (c .before .before .before .before .before .before .before .before)))
+    (λ c. search (child-tested, none-after, one t (c .before .before .before .before .before .before .before .before)))
     (first-asks t)
     (λ c. search needs)
     (λ c. search needs)
@@ -144,7 +147,7 @@ pub +collect-children+collect-node-spec : {M : Type 1} → statement M
     (λ c. search node-stops)
     (λ c κs. search needs)
     (λ c. search needs)
-    (λ c κs. (omega arith, record { readable = search readable-under; passed = search node-passed; among = omega arith; some = omega arith; within = search internal-within }))
+    (λ c κs. (omega arith, record { readable = search readable-under; there = search node-there; among = omega arith; some = omega arith; within = search internal-within }))
     (λ c. search needs)
     (λ c. search needs)
     (λ c. search needs)

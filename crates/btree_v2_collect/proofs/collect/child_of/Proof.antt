@@ -11,4 +11,4 @@ child-of-spec =
     (λ c κs. search needs)
     (λ c. search needs)
     (λ c κs. search needs)
-    (λ c. let entry = c .before .before .before in child-there _ (entry .args .sizes) (entry .args .node) _ (entry .pre .1 .0) _ _ (c .read-pointer .result) (c .before .sizes-above .ensures) (c .read-pointer .ensures)))
+    (λ c. let entry = c .before .before .before in child-there _ (entry .args .sizes) (entry .args .node) (entry .pre .1 .0) _ _ _ (c .read-pointer .result) (c .before .sizes-above .ensures) (c .read-pointer .ensures)))
