@@ -32,7 +32,7 @@ pub enum Refusal {
     RecordBufferLength(u64),
     // 13: the record count does not fit the length size
     CountAboveLengthSize(u64),
-    // 14: an address does not fit the offset size
+    // 14: start plus image is above the largest number of the offset size
     AddressAboveOffsetSize(u64),
     // 15: an output is too short
     OutputTooShort(u64),
