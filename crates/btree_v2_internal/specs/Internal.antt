@@ -6,7 +6,7 @@ use lib.ListN.{length}
 use Rattle.numbers.specs.Numbers.{num, fieldSize}
 use Rattle.refusal.specs.Answer.{Answer, accepted, refused, orElse, onAccepted}
 use Rattle.format.specs.Bytes.{internalSignature}
-use Rattle.read_checks.specs.Tests.{needs, recordsEnd, frontTest}
+use Rattle.read_checks.specs.Tests.{needs, prefixSize, recordsEnd, frontTest}
 
 -- The body of an internal node at a with n records of rs bytes and one pointer more, each of w bytes, ow of them the child's address:
 -- records, pointers, offset size. The figures of both shortages are of the part of the file from a on.
@@ -32,7 +32,7 @@ module _ (s : Source) where
 
   -- The place of pointer i of the internal node at a with n records whose children have level d.
   unfoldable pub pointerPlace : ℕ → ℕ → ℕ → ℕ → ℕ
-  pointerPlace d a n i = a + 6 + n * s .rs + i * pointerWidth d
+  pointerPlace d a n i = a + prefixSize + n * s .rs + i * pointerWidth d
 
   -- The address and the record count in the pointer at place p; the count modulo 65,536.
   unfoldable pub childAddress : ℕ → ℕ

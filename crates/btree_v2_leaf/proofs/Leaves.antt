@@ -15,7 +15,7 @@ use Rattle.btree_v2_leaf.specs.Leaf.{leafBody, leafTest}
 use Rattle.btree_v2_leaf.proofs.Records as records
 use Rattle.refusal.specs.declared.Verdict.{Verdict}
 use Rattle.refusal.specs.declared.Verdict.the-variants.{Accepted, Refused}
-use Rattle.read_checks.proofs.Checks.{bytes-there, bytes-missing, first-refuses, first-accepts}
+use Rattle.read_checks.proofs.Checks.{bytes-missing, first-refuses, first-accepts}
 
 module _ (file : List ℕ) (k a n : ℕ) where
   -- `check_leaf`: the front, and the body where the front is accepted.
