@@ -10,7 +10,7 @@ lay-out-spec =
     (tie.spec
     (λ c κs. search needs)
     (λ c κs. search needs)
-    (λ c. laid-4 _ _ _ _ _ (c .before .before .is-field-size .ensures) _ _ (c .before .if1 .taken) (c .refused .ensures))
+    (λ c. laid-4 _ _ _ (c .before .before .before .args .offset-size) _ (c .before .before .is-field-size .ensures) _ _ (c .before .if1 .taken) (c .refused .ensures))
     (λ c κs. search needs)
     (λ c. let four = c .before .before in laid-7-low _ _ _ _ _ (four .before .is-field-size .ensures) (four .if1 .left) _ _ (c .before .if2 .taken) (c .refused2 .ensures))
     (λ c κs. search needs)

@@ -10,7 +10,7 @@ lay-out-passed-spec =
     (tie.spec
     (λ c κs. search needs)
     (λ c κs. search needs)
-    (λ c. let found = c .before .before .before in laid-10 _ _ _ _ (found .before .pre) _ _ _ (found .deepen .ensures) _ _ (c .before .if1 .taken) (c .refused .ensures))
+    (λ c. let found = c .before .before .before in laid-10 _ _ _ _ (found .before .pre) _ _ _ (found .deepen .ensures) _ _ (c .before .if1 .taken) (c .refused .ensures .0, c .refused .ensures .1))
     (λ c κs. search level-deep)
     (λ c κs. search needs)
     (λ c.
