@@ -1,4 +1,4 @@
--- What stands in the caller's array, in the forms in which the functions' proofs have it.
+-- The capacity table in the caller's array, in the forms in which the functions' proofs have it.
 use mathlib.Core.Path.{_≡_, refl}
 use mathlib.Core.List.{List, [], _∷_, _++_, append-assoc, append-nil}
 use Prim.Native.Nat.{ℕ, suc, _+_, _-_, _≤_, _<_}

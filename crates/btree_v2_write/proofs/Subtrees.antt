@@ -276,10 +276,10 @@ module _ {l : Layout} {most wide recs : List ℕ} {depth n j r k b x m : ℕ} {o
       let nodes = rw (first-left dealt e) at (nodes-all dealt) in
       node-fits dealt (j + large .nodes) (omega (arith, wrote .child .nodes, nodes))
 
-  pub loop-start : {small : Child} → length o₁ ≡ length o
+  pub loop-start : (small : Child) → length o₁ ≡ length o
       → KidsLeft l most wide recs o₁ depth n j r k b x large o₁ small (j + large .nodes) (r + large .total + 1) 1
   unfolding sumOf
-  loop-start same =
+  loop-start small same =
       record {
         dealt = rw same dealt;
         of-first = subst (λ z. ChildOf (depth - 1) (subtree l (depth - 1) z) large) e (wrote .child);

@@ -89,7 +89,17 @@ pub +write-subtree-spec : {M : Type 1} → statement M
     (λ c.
     let begun = c .before .before .before in
     let known = dealt t (begun .before .before .before) in
-    loop-start known (begun .before .before .share .ensures) (begun .write-subtree .ensures) (begun .write-subtree .kept .0))
+    let start = loop-start known (begun .before .before .share .ensures) (begun .write-subtree .ensures) (record { records = 0; total = 0; nodes = 0 }) (begun .write-subtree .kept .0) in
+    record {
+      dealt = start .dealt;
+      of-first = start .of-first;
+      of-last = start .of-last;
+      within = start .within;
+      reached = start .reached;
+      rows = start .rows;
+      long = start .long;
+      left = start .left;
+    })
     (λ c κs. search base-few)
     (λ c κs. (omega arith, kid-ready (c .before .before .before .loop .inv) (c .before .before .loop-test .taken) (c .before .share2 .ensures)))
     (λ c.
