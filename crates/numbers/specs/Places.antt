@@ -1,4 +1,4 @@
--- What a buffer holds after bytes were put at a place of it.
+-- What a buffer holds after bytes were put at a place of it: document 01, "Header and node image" (bytes of a longer buffer stay).
 use Prim.Native.Nat.{ℕ, _+_, _-_}
 use mathlib.Core.List.{List, _++_}
 use lib.ListN.{length, drop, take}
