@@ -1,11 +1,13 @@
 -- Demand 3 on the three calls, from the complete return of records on the definitions.
 use mathlib.Core.Path.{_≡_, refl, sym, _∙_, ap}
+use mathlib.Core.Logic.{⊎-elim}
 use mathlib.Core.List.{List, [], _∷_, _++_}
 use Prim.Native.Nat.{ℕ, _+_, _-_, _*_, _≤_, _<_}
+use native.Mathlib.Nat.{zero-mul, eq-zero-or-pos}
 use native.Mathlib.Omega.{arith}
 use lib.ListN.{length, getD, take, drop}
 use lib.Seq.{take-at, drop-at}
-use Rattle.numbers.specs.Numbers.{held}
+use Rattle.numbers.specs.Numbers.{held, part}
 use Rattle.refusal.specs.declared.Refusal.{Refusal}
 use Rattle.refusal.specs.Answer.{accepted, refused, cells, verdictOf}
 use Rattle.refusal.proofs.Answers.{refused-is}
@@ -17,15 +19,15 @@ use Rattle.plan.proofs.Checks.{Plannable, accepted-plannable}
 use Rattle.format.specs.Request.{Request, depthOf, nodesOf, rootOf, rootRecordsOf, headerOf, imageOf}
 use Rattle.write_checks.specs.Writing.{written, headerExit, imageExit}
 use Rattle.numbers.specs.Places.{over}
-use Rattle.btree_v2_collect.specs.Walk.{Counts, fine}
-use Rattle.btree_v2_header.specs.Header.{parsed}
+use Rattle.btree_v2_collect.specs.Walk.{Counts, fine, noCounts}
+use Rattle.btree_v2_header.specs.Header.{headerFigures, parsed}
 use Rattle.btree_v2_collect.specs.Collect.{collected, runCells, runOutput, countCells}
-use Rattle.round_trip.specs.Return.{Stands, headerWritten, Returned}
+use Rattle.round_trip.specs.Return.{headerWritten, Returned}
 use Rattle.write_checks.proofs.Accepted.{Accepts, accepts, plan-accepted}
 use Rattle.write_checks.proofs.Fitting.{image-long}
 use Rattle.format.proofs.HeaderLengths.{length-headerOf}
 use Rattle.write_checks.proofs.Outputs.{header-put, image-put}
-use Rattle.round_trip.proofs.Returned.{returns}
+use Rattle.round_trip.proofs.Returned.{returns, returns-header, returns-none}
 use Rattle.btree_v2_header.specs.declared.BTreeV2Header.{BTreeV2Header}
 use Rattle.btree_v2_header.specs.declared.HeaderAnswer.{HeaderAnswer}
 use Rattle.btree_v2_header.specs.declared.HeaderAnswer.the-variants as header
@@ -37,7 +39,7 @@ use Rattle.btree_v2_header.specs.Answers.{fieldsOf, headerAnswerOf}
 use Rattle.btree_v2_collect.specs.Answers.{collectedCells}
 use Rattle.round_trip.specs.declared.RoundTrip.{RoundTrip}
 use Rattle.round_trip.specs.Nodes.{nodeAddress, nodeRecords}
-use Rattle.round_trip.specs.ThreeCalls.{Lent, onHeader, Collects, readBack, Holds, Complete, Answered}
+use Rattle.round_trip.specs.ThreeCalls.{Lent, onHeader, Collects, readBack, Holds, NodesCounted, Complete, Answered}
 use Rattle.round_trip.proofs.Roots.{root-address, root-records}
 
 -- An accepted walk's cells: the verdict accepts, and each count is the walk's, held.
@@ -82,9 +84,13 @@ figured : (q : Request) (p : BTreeV2Plan) → figuresOf p ≡ planFigures (q .n)
 unfolding planFigures nodesOf
 figured q p e = record { depth = cc; nodes = cc; leaves = cc }
 
--- An accepted write of some records, a file that holds what it left, and an output that is long enough.
+no-bytes : (l : List ℕ) → length l ≡ 0 → l ≡ []
+no-bytes [] e = refl
+no-bytes (x ∷ l) e = absurd (omega arith)
+
+-- An accepted write, a file that holds what it left, and an output that is long enough.
 module _ (q : Request) (p : BTreeV2Plan) (s : Lent) (ok : written q (s .records) (s .header) (s .image) ≡ accepted (figuresOf p))
-    (small : q .rs < 65536) (some : 1 ≤ q .n) (h i : List ℕ) (left : h ≡ headerExit q (s .records) (s .header) (s .image))
+    (small : q .rs < 65536) (h i : List ℕ) (left : h ≡ headerExit q (s .records) (s .header) (s .image))
     (image : i ≡ imageExit q (s .records) (s .header) (s .image)) (holds : Holds q p (s .file) (s .place) h i)
     (long : q .n * q .rs ≤ length (s .output)) where
   accept : Accepts q (s .records)
@@ -100,48 +106,82 @@ module _ (q : Request) (p : BTreeV2Plan) (s : Lent) (ok : written q (s .records)
   few : q .n ≤ 16777215
   few = omega (arith, checked .0 .pass)
 
-  header-front : take (22 + q .ow + q .lw) h ≡ headerOf q
-  header-front =
-      rw (left, header-put q (s .records) (s .header) (s .image) (figuresOf p) ok)
+  header-stands : part (s .file) (s .place) (22 + q .ow + q .lw) ≡ headerOf q
+  header-stands =
+      holds .header
+      ∙ rw (left, header-put q (s .records) (s .header) (s .image) (figuresOf p) ok)
       (front-over (headerOf q) (s .header) (22 + q .ow + q .lw) (length-headerOf q))
 
-  image-front : take (nodesOf q * q .ns) i ≡ imageOf q (s .records)
-  image-front =
-      rw (image, image-put q (s .records) (s .header) (s .image) (figuresOf p) ok)
-      (front-over (imageOf q (s .records)) (s .image) (nodesOf q * q .ns) (image-long q (s .records) accept some))
+  header-back : parsed (s .file) (s .place) (q .ow) (q .lw) ≡ accepted (headerFigures (headerWritten q))
+  header-back = returns-header q (s .records) (s .header) (s .image) (figuresOf p) ok small (s .file) (s .place) header-stands
 
-  stands : Stands q (s .records) (s .file) (s .place)
-  stands = record { header = holds .header ∙ header-front; nodes = rw (same .nodes) at (holds .nodes) ∙ image-front }
+  -- The output with the records written at its front.
+  abbrev filled : List ℕ
+  filled = s .records ++ drop (q .n * q .rs) (s .output)
 
-  back : Returned q (s .records) (s .file) (s .place) (s .output)
-  back = returns q (s .records) (s .header) (s .image) (figuresOf p) ok small (s .file) (s .place) (s .output) some stands long
+  module _ (r : RoundTrip) (o : List ℕ) (read : headerAnswerOf (r .header) ≡ parsed (s .file) (s .place) (q .ow) (q .lw))
+      (run : Collects (readBack q s) (r .collected) o) where
+    -- All but the counts, where collecting ends with the records put out.
+    module _ (c : Counts) (ends : collected (s .file) (headerWritten q) (q .ow) (s .output) ≡ fine c filled) (all : c .records ≡ q .n) where
+      whole : readBack q s ≡ fine c filled
+      unfolding readBack headerWritten
+      whole = rw header-back ends
 
-  -- What reading back gives.
-  whole : readBack q s ≡ fine (back .counts) (s .records ++ drop (q .n * q .rs) (s .output))
-  unfolding readBack
-  whole = rw (back .header) (back .output)
+      tells : Told (r .collected .verdict) (r .collected .tally) c
+      unfolding runCells
+      tells = told (r .collected .verdict) (r .collected .tally) c (rw whole at (run .cells))
 
-  pub complete : (r : RoundTrip) (o : List ℕ) → headerAnswerOf (r .header) ≡ parsed (s .file) (s .place) (q .ow) (q .lw)
-      → Collects (readBack q s) (r .collected) o → Complete q p (s .records) (s .output) r o
-  unfolding runCells headerWritten
-  complete r o hp run =
-      let t = told (r .collected .verdict) (r .collected .tally) (back .counts) (rw whole at (run .cells)) in
-      let b = back in
-      let f = same in
-      let address : rootOf q ≡ nodeAddress q (p .nodes - 1) = rw (f .nodes, root-address q) in
-      let own : rootRecordsOf q ≡ nodeRecords q (p .nodes - 1) = rw (f .nodes, root-records q) in
-      let put : o ≡ s .records ++ drop (q .n * q .rs) (s .output) = rw whole at (run .output) in
-      record {
-        header = rw (address, own, ← f .depth) at (hp ∙ back .header);
-        collected = t .verdict;
-        front = rw put (take-at (s .records) (drop (q .n * q .rs) (s .output)) (q .n * q .rs) (accept .records));
-        rest = rw put (drop-at (s .records) (drop (q .n * q .rs) (s .output)) (q .n * q .rs) (accept .records));
-        putOut = omega (arith, t .records, b .records, few);
-        leaves = omega (arith, t .leaves, b .leavesPlanned, b .allNodes, b .atMost, few, f .leaves);
-        oneMore = omega (arith, t .leaves, t .inner, b .oneMore, b .allNodes, b .atMost, few);
-        allNodes = omega (arith, t .leaves, t .internals, b .allNodes, b .atMost, few, f .nodes);
-        atMost = rw (f .nodes) (b .atMost);
-      }
+      with-counts : (1 ≤ q .n → NodesCounted q p (r .collected .tally)) → Complete q p (s .records) (s .output) r o
+      unfolding headerWritten
+      with-counts counts =
+          let t = tells in
+          let address : rootOf q ≡ nodeAddress q (p .nodes - 1) = rw (same .nodes, root-address q) in
+          let own : rootRecordsOf q ≡ nodeRecords q (p .nodes - 1) = rw (same .nodes, root-records q) in
+          let put : o ≡ filled = rw whole at (run .output) in
+          record {
+            header = rw (address, own, ← same .depth) at (read ∙ header-back);
+            collected = t .verdict;
+            front = rw put (take-at (s .records) (drop (q .n * q .rs) (s .output)) (q .n * q .rs) (accept .records));
+            rest = rw put (drop-at (s .records) (drop (q .n * q .rs) (s .output)) (q .n * q .rs) (accept .records));
+            putOut = omega (arith, t .records, all, few);
+            counts = counts;
+          }
+
+    none-complete : q .n ≡ 0 → Complete q p (s .records) (s .output) r o
+    none-complete z =
+        let empty : s .records ≡ [] = no-bytes (s .records) (rw (z, zero-mul) at (accept .records)) in
+        let same-output : s .output ≡ filled = rw (empty, z, zero-mul) in
+        let ends : collected (s .file) (headerWritten q) (q .ow) (s .output) ≡ fine noCounts filled =
+        returns-none q (s .records) (s .header) (s .image) (figuresOf p) ok small (s .file) (s .place) (s .output) z ∙ ap (fine noCounts) same-output
+        in
+        with-counts noCounts ends (sym z) (λ some. absurd (omega arith))
+
+    module _ (some : 1 ≤ q .n) where
+      image-stands : part (s .file) (q .start) (nodesOf q * q .ns) ≡ imageOf q (s .records)
+      image-stands =
+          rw (same .nodes) at (holds .nodes)
+          ∙ rw (image, image-put q (s .records) (s .header) (s .image) (figuresOf p) ok)
+          (front-over (imageOf q (s .records)) (s .image) (nodesOf q * q .ns) (image-long q (s .records) accept some))
+
+      back : Returned q (s .records) (s .file) (s .place) (s .output)
+      back =
+          returns q (s .records) (s .header) (s .image) (figuresOf p) ok small (s .file) (s .place) (s .output) some
+          (record { header = header-stands; nodes = image-stands }) long
+
+      some-complete : Complete q p (s .records) (s .output) r o
+      some-complete =
+          let b = back in
+          let t = tells (b .counts) (b .output) (b .records) in
+          with-counts (b .counts) (b .output) (b .records)
+          (λ n. record {
+            leaves = omega (arith, t .leaves, b .leavesPlanned, b .allNodes, b .atMost, few, same .leaves);
+            oneMore = omega (arith, t .leaves, t .inner, b .oneMore, b .allNodes, b .atMost, few);
+            allNodes = omega (arith, t .leaves, t .internals, b .allNodes, b .atMost, few, same .nodes);
+            atMost = rw (same .nodes) (b .atMost);
+          })
+
+    pub complete : Complete q p (s .records) (s .output) r o
+    complete = ⊎-elim none-complete some-complete (eq-zero-or-pos (q .n))
 
 -- `collect_parsed`, by the header reader's answer.
 module _ (file : List ℕ) (ow : ℕ) (out : List ℕ) (p : HeaderAnswer) where
@@ -172,5 +212,5 @@ module _ (q : Request) (s : Lent) (x : PlanAnswer) (h i : List ℕ) (p : HeaderA
         imageLeft = il;
         parsed = told;
         collected = run;
-        complete = λ plan e some holds long. complete q plan s (sym wrote ∙ ap planAnswerOf e) small some h i hl il holds long _ o told run;
+        complete = λ plan e holds long. complete q plan s (sym wrote ∙ ap planAnswerOf e) small h i hl il holds long _ o told run;
       }

@@ -19,6 +19,7 @@ use Rattle.btree_v2_header.specs.Header.{Header}
 use Rattle.btree_v2_collect.specs.Collect.{runCells, runOutput}
 use Rattle.btree_v2_header.specs.Answers.{headerAnswerOf}
 use Rattle.btree_v2_collect.specs.declared.Collected.{Collected}
+use Rattle.btree_v2_collect.specs.declared.Tally.{Tally}
 use Rattle.btree_v2_collect.specs.Answers.{collectedCells}
 use Rattle.round_trip.specs.declared.RoundTrip.{RoundTrip}
 use Rattle.round_trip.specs.Nodes.{nodeAddress, nodeRecords}
@@ -69,9 +70,16 @@ pub record Holds (q : Request) (p : BTreeV2Plan) (file : List ℕ) (place : ℕ)
   pub header : part file place (22 + q .ow + q .lw) ≡ take (22 + q .ow + q .lw) headerLast
   pub nodes : part file (q .start) (p .nodes * q .ns) ≡ take (p .nodes * q .ns) imageLast
 
--- What demand 3 lists, of the plan p that the write answered: the header as written, its root the last of the nodes; collecting accepted; the
--- records written at the front of the output, and its other bytes as they were; N records put out; leaves as answered, one more than the
--- records from internal nodes; leaves and internal nodes together the nodes answered, at most N.
+-- The counts of leaves and nodes that demand 3 lists, of the plan p that the write answered: leaves as answered, one more than the records from
+-- internal nodes; leaves and internal nodes together the nodes answered, at most N.
+pub record NodesCounted (q : Request) (p : BTreeV2Plan) (t : Tally) : Type 0 where
+  pub leaves : t .leaves ≡ p .leaves
+  pub oneMore : t .leaves ≡ t .inner + 1
+  pub allNodes : t .leaves + t .internals ≡ p .nodes
+  pub atMost : p .nodes ≤ q .n
+
+-- What demand 3 lists, of that plan: the header as written, its root the last of the nodes; collecting accepted; the records written at the front
+-- of the output, and its other bytes as they were; N records put out; and the counts where there is a record: the leaf of none is not read.
 pub record Complete (q : Request) (p : BTreeV2Plan) (recs out : List ℕ) (r : RoundTrip) (outputLast : List ℕ) : Type 0 where
   pub header : headerAnswerOf (r .header)
       ≡ accepted (q .treeType ∷ q .ns ∷ q .rs ∷ p .depth ∷ nodeAddress q (p .nodes - 1) ∷ nodeRecords q (p .nodes - 1) ∷ q .n ∷ [])
@@ -79,10 +87,7 @@ pub record Complete (q : Request) (p : BTreeV2Plan) (recs out : List ℕ) (r : R
   pub front : take (q .n * q .rs) outputLast ≡ recs
   pub rest : drop (q .n * q .rs) outputLast ≡ drop (q .n * q .rs) out
   pub putOut : r .collected .tally .records ≡ q .n
-  pub leaves : r .collected .tally .leaves ≡ p .leaves
-  pub oneMore : r .collected .tally .leaves ≡ r .collected .tally .inner + 1
-  pub allNodes : r .collected .tally .leaves + r .collected .tally .internals ≡ p .nodes
-  pub atMost : p .nodes ≤ q .n
+  pub counts : 1 ≤ q .n → NodesCounted q p (r .collected .tally)
 
 -- The three calls: the answers and the buffers at exit are those of the three definitions; and demand 3.
 pub record Answered (q : Request) (s : Lent) (r : RoundTrip) (headerLast imageLast outputLast : List ℕ) : Type 0 where
@@ -91,5 +96,5 @@ pub record Answered (q : Request) (s : Lent) (r : RoundTrip) (headerLast imageLa
   pub imageLeft : imageLast ≡ imageExit q (s .records) (s .header) (s .image)
   pub parsed : headerAnswerOf (r .header) ≡ reader.parsed (s .file) (s .place) (q .ow) (q .lw)
   pub collected : Collects (readBack q s) (r .collected) outputLast
-  pub complete : (p : BTreeV2Plan) → r .written ≡ Planned p → 1 ≤ q .n → Holds q p (s .file) (s .place) headerLast imageLast
+  pub complete : (p : BTreeV2Plan) → r .written ≡ Planned p → Holds q p (s .file) (s .place) headerLast imageLast
       → q .n * q .rs ≤ length (s .output) → Complete q p (s .records) (s .output) r outputLast
