@@ -5,7 +5,7 @@ use Prim.Native.Nat.{ℕ}
 use lib.ListN.{length, length-append}
 use Rattle.refusal.specs.declared.Refusal.{Refusal}
 use Rattle.refusal.specs.Answer.{refusalOf, verdictOf, cells}
-use Rattle.refusal.proofs.Answers.{length-cells, told-more}
+use Rattle.refusal.proofs.Answers.{length-cells, code-more}
 use Rattle.plan.specs.declared.BTreeV2Plan.{BTreeV2Plan}
 use Rattle.plan.specs.declared.PlanAnswer.{PlanAnswer}
 use Rattle.plan.specs.declared.PlanAnswer.the-variants as plan
@@ -28,7 +28,7 @@ plan-put e = rw e
 
 pub plan-refused : {p : PlanAnswer} (cause : Refusal) {n x y : ℕ} → p ≡ plan.Refused cause → n ∷ x ∷ y ∷ [] ≡ cells 3 (refusalOf cause)
     → n ∷ x ∷ y ∷ 0 ∷ 0 ∷ [] ≡ cells 5 (planAnswerOf p)
-plan-refused cause e told = rw e (told-more cause 2 told)
+plan-refused cause e code = rw e (code-more cause 2 code)
 
 -- The header's fields, or its refusal.
 pub header-put : {p : HeaderAnswer} {h : BTreeV2Header} → p ≡ header.Parsed h
@@ -39,7 +39,7 @@ header-put e = rw e
 
 pub header-refused : {p : HeaderAnswer} (cause : Refusal) {n x y : ℕ} → p ≡ header.Refused cause → n ∷ x ∷ y ∷ [] ≡ cells 3 (refusalOf cause)
     → n ∷ x ∷ y ∷ 0 ∷ 0 ∷ 0 ∷ 0 ∷ 0 ∷ [] ≡ cells 8 (headerAnswerOf p)
-header-refused cause e told = rw e (told-more cause 5 told)
+header-refused cause e code = rw e (code-more cause 5 code)
 
 -- The length of a record, or why it was not copied.
 pub record-put : {p : RecordAnswer} {k : ℕ} → p ≡ copied.Copied k → 0 ∷ k ∷ 0 ∷ [] ≡ cells 3 (recordAnswerOf p)
@@ -48,12 +48,12 @@ record-put e = rw e
 
 pub record-refused : {p : RecordAnswer} (cause : Refusal) {t : List ℕ} → p ≡ copied.Refused cause → t ≡ cells 3 (refusalOf cause)
     → t ≡ cells 3 (recordAnswerOf p)
-record-refused cause e told = rw e told
+record-refused cause e code = rw e code
 
 -- What was collected: number and values, and the counts.
 pub collected-put : (r : Collected) {n x y : ℕ} → n ∷ x ∷ y ∷ [] ≡ cells 3 (verdictOf (r .verdict))
-    → n ∷ x ∷ y ∷ r .tally .records ∷ r .tally .leaves ∷ r .tally .internals ∷ r .tally .inner ∷ [] ≡ collectedCells r
-collected-put r told = rw (← told)
+    → n ∷ x ∷ y ∷ r .tally .records ∷ r .tally .leaves ∷ r .tally .internals ∷ r .tally .«internal_records» ∷ [] ≡ collectedCells r
+collected-put r code = rw (← code)
 
 pub collected-length : (r : Collected) {z : List ℕ} → z ≡ collectedCells r → length z ≡ 7
 collected-length r e = simp (e, length-append, length-cells)

@@ -38,21 +38,21 @@ module _ (o : List ℕ) (at : ℕ) (column : List ℕ) where
     copied-end h = rw (inv .2, take-all i column h)
 
 -- A refusal's number n and its values x and y in the first places of a; then zeros z in the others.
-abbrev Told : List ℕ → ℕ → ℕ → ℕ → List ℕ
-Told a n x y = set (set (set a 0 n) 1 x) 2 y
+abbrev Code : List ℕ → ℕ → ℕ → ℕ → List ℕ
+Code a n x y = set (set (set a 0 n) 1 x) 2 y
 
 pub refusal-put : (cause : Refusal) (a : List ℕ) {n x y : ℕ} {z : List ℕ} → 3 ≤ length a
     → n ∷ x ∷ y ∷ [] ≡ cells 3 (refusalOf cause)
-    → z ≡ replicate (length (take (length (Told a n x y) - 3) (drop 3 (Told a n x y)))) 0
-    → take 3 (Told a n x y) ++ (z ++ drop (length (Told a n x y) - 3) (drop 3 (Told a n x y)))
+    → z ≡ replicate (length (take (length (Code a n x y) - 3) (drop 3 (Code a n x y)))) 0
+    → take 3 (Code a n x y) ++ (z ++ drop (length (Code a n x y) - 3) (drop 3 (Code a n x y)))
     ≡ cells (length a) (refusalOf cause)
-refusal-put cause [] h told e = absurd (omega arith)
-refusal-put cause (_ ∷ []) h told e = absurd (omega arith)
-refusal-put cause (_ ∷ _ ∷ []) h told e = absurd (omega arith)
-refusal-put cause (_ ∷ _ ∷ _ ∷ r) h told e =
+refusal-put cause [] h code e = absurd (omega arith)
+refusal-put cause (_ ∷ []) h code e = absurd (omega arith)
+refusal-put cause (_ ∷ _ ∷ []) h code e = absurd (omega arith)
+refusal-put cause (_ ∷ _ ∷ _ ∷ r) h code e =
     let k : suc (suc (suc (length r))) - 3 ≡ length r = omega arith in
     let m : suc (suc (suc (length r))) ≡ length r + 3 = omega arith in
-    rw (e, k, take-length, drop-length, append-nil, m, cells-more, ← told)
+    rw (e, k, take-length, drop-length, append-nil, m, cells-more, ← code)
 
 -- The table's columns, each right after the one before.
 two : (a : List ℕ) (x y : ℕ) → 2 ≤ length a → set (set a 0 x) 1 y ≡ stored a 0 (x ∷ y ∷ [])

@@ -34,8 +34,8 @@ pub fn put_plan(answer: &mut [u64; 5], planned: PlanAnswer)
             ];
         }
         PlanAnswer::Refused(cause) => {
-            let told = cause.told();
-            *answer = [told.number, told.first, told.second, 0, 0];
+            let code = cause.code();
+            *answer = [code.number, code.first, code.second, 0, 0];
         }
     }
 }
@@ -58,8 +58,8 @@ pub fn put_header(answer: &mut [u64; 8], parsed: HeaderAnswer)
             ];
         }
         HeaderAnswer::Refused(cause) => {
-            let told = cause.told();
-            *answer = [told.number, told.first, told.second, 0, 0, 0, 0, 0];
+            let code = cause.code();
+            *answer = [code.number, code.first, code.second, 0, 0, 0, 0, 0];
         }
     }
 }
@@ -69,16 +69,16 @@ pub fn put_collected(answer: &mut [u64; 7], collected: Collected)
     ensures { λ _. ⌜ now (answer .exit) ≡ collectedCells collected ⌝ }
 {
     let verdict = collected.verdict;
-    let told = verdict.told();
+    let code = verdict.code();
     let tally = collected.tally;
     *answer = [
-        told.number,
-        told.first,
-        told.second,
+        code.number,
+        code.first,
+        code.second,
         tally.records,
         tally.leaves,
         tally.internals,
-        tally.inner,
+        tally.internal_records,
     ];
 }
 
@@ -91,8 +91,8 @@ pub fn put_record(answer: &mut [u64; 3], copied: RecordAnswer)
             *answer = [0, length, 0];
         }
         RecordAnswer::Refused(cause) => {
-            let told = cause.told();
-            *answer = [told.number, told.first, told.second];
+            let code = cause.code();
+            *answer = [code.number, code.first, code.second];
         }
     }
 }
@@ -114,10 +114,10 @@ fn put_refusal(answer: &mut [u64], cause: Refusal)
     requires { ⌜ 3 ≤ length (now answer) ⌝ }
     ensures { λ _. ⌜ now (answer .exit) ≡ cells (length (now (answer .entry))) (refusalOf cause) ⌝ }
 {
-    let told = cause.told();
-    answer[0] = told.number;
-    answer[1] = told.first;
-    answer[2] = told.second;
+    let code = cause.code();
+    answer[0] = code.number;
+    answer[1] = code.first;
+    answer[2] = code.second;
     clear(&mut answer[3..]);
 }
 

@@ -4,7 +4,7 @@ use mathlib.Core.List.{List}
 use Prim.Native.Nat.{ℕ, _+_}
 use native.Mathlib.Omega.{arith}
 use Rattle.refusal.specs.Answer.{Answer, accepted, refused}
-use Rattle.btree_v2_collect.specs.Walk.{Counts, Run, fine, stopped, andThen, ifPassed, noCounts, oneRecord, oneLeaf, oneInternal, oneInner, Tests, putRecord, putRecords, leafRun, innerRun, nodeRun}
+use Rattle.btree_v2_collect.specs.Walk.{Counts, Run, fine, stopped, andThen, ifPassed, noCounts, oneRecord, oneLeaf, oneInternal, oneInternalRecord, Tests, putRecord, putRecords, leafRun, ownRecordRun, nodeRun}
 use Rattle.btree_v2_internal.specs.Internal.{Source}
 use Rattle.btree_v2_header.specs.Header.{Header}
 use Rattle.btree_v2_collect.specs.Collect.{collectTests, sourceOf, collected}
@@ -13,12 +13,12 @@ use Rattle.btree_v2_collect.proofs.Walking.{Step, records-walked, node-
 
 -- Where a walk from the counts c on is accepted, it counts x more leaves and y more records from internal nodes, or as many more of both.
 record Balanced (x y : ℕ) (c : Counts) (r : Run) : Type 0 where
-  balance : (c1 : Counts) (o1 : List ℕ) → r ≡ fine c1 o1 → c1 .leaves + c .inner + y ≡ c1 .inner + c .leaves + x
+  balance : (c1 : Counts) (o1 : List ℕ) → r ≡ fine c1 o1 → c1 .leaves + c .internalRecords + y ≡ c1 .internalRecords + c .leaves + x
 
 stops : {x y : ℕ} {c : Counts} {number : ℕ} {values : List ℕ} {c1 : Counts} {o1 : List ℕ} → Balanced x y c (stopped number values c1 o1)
 stops {number} {values} {c1} {o1} = record { balance = λ c2 o2 e. let z : _≡_ {A = ℕ} 0 1 = cc in absurd (omega arith) }
 
-goes : {x y : ℕ} (c c1 : Counts) {o1 : List ℕ} → c1 .leaves + c .inner + y ≡ c1 .inner + c .leaves + x → Balanced x y c (fine c1 o1)
+goes : {x y : ℕ} (c c1 : Counts) {o1 : List ℕ} → c1 .leaves + c .internalRecords + y ≡ c1 .internalRecords + c .leaves + x → Balanced x y c (fine c1 o1)
 goes {x} {y} c c1 {o1} h = record { balance = λ c2 o2 e. let f : c1 ≡ c2 = cc in rw (← f) h }
 
 both : {x y v w : ℕ} {c : Counts} {r : Run} {next : Counts → List ℕ → Run} → Balanced x y c r
@@ -32,7 +32,7 @@ if-balanced : {x y : ℕ} (t : Answer) {c : Counts} (c1 : Counts) (o : List ℕ)
 if-balanced (accepted figures) c1 o h = h
 if-balanced (refused number values) c1 o h = stops
 
-counted : {x y v w : ℕ} (c c1 : Counts) {r : Run} → Balanced v w c1 r → c1 .leaves + c .inner + y + v ≡ c1 .inner + c .leaves + x + w
+counted : {x y v w : ℕ} (c c1 : Counts) {r : Run} → Balanced v w c1 r → c1 .leaves + c .internalRecords + y + v ≡ c1 .internalRecords + c .leaves + x + w
     → Balanced x y c r
 counted c c1 h e = record { balance = λ c2 o2 f. omega (arith, h .balance c2 o2 f) }
 
@@ -50,20 +50,20 @@ module _ (s : Source) where
 
   -- A node counts one leaf more, a record between one record from an internal node.
   node-balanced : (tests : Tests) (d a n : ℕ) → Balances 1 0 (nodeRun s tests d a n)
-  unfolding leafRun innerRun
+  unfolding leafRun ownRecordRun
   node-balanced tests =
       node-walked s tests {N = λ d a n. Balances 1 0} {C = λ d a n m i. Balances 1 0} {R = λ d a n i. Balances 0 1}
       (record {
         leaf = λ a n c o. if-balanced (tests .leaf a n) c o (counted c (oneLeaf c) (puts-balanced n (a + 6) (oneLeaf c) o) (omega arith));
         internal = λ d a n h c o. if-balanced (tests .internal d a n) c o (counted c (oneInternal c) (h (oneInternal c) o) (omega arith));
         child = λ d a n i h c o. both (h c o) (λ c1 o1. if-balanced (tests .child d _ _) c1 o1 (goes {x = 0} {y = 0} c1 c1 (omega arith)));
-        inner = λ d a n i c o. both (put-balanced _ c o) (λ c1 o1. goes {x = 0} {y = 1} c1 (oneInner c1) (omega arith));
+        ownRecord = λ d a n i c o. both (put-balanced _ c o) (λ c1 o1. goes {x = 0} {y = 1} c1 (oneInternalRecord c1) (omega arith));
         more = λ f g h c o. counted c c (both (f c o) (λ c1 o1. both (g c1 o1) h)) (omega arith);
       })
 
 -- Collecting that reads a root.
 pub one-leaf-more : (file : List ℕ) (h : Header) (ow : ℕ) (out : List ℕ) (c : Counts) (o : List ℕ)
-    → (h .records ≡ 0 → ⊥) → (h .rootRecords ≡ 0 → ⊥) → collected file h ow out ≡ fine c o → c .leaves ≡ c .inner + 1
+    → (h .records ≡ 0 → ⊥) → (h .rootRecords ≡ 0 → ⊥) → collected file h ow out ≡ fine c o → c .leaves ≡ c .internalRecords + 1
 one-leaf-more file h ow out c o some root e =
     let run = node-balanced (sourceOf file h ow) (collectTests (sourceOf file h ow)) (h .depth) (h .root) (h .rootRecords) noCounts out in
     omega (arith, run .balance c o (collected-fine file h ow out some root c o e))

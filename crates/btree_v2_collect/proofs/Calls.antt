@@ -7,7 +7,7 @@ use native.Mathlib.Omega.{arith}
 use lib.Dec.{leb}
 use borrow.Author.Tests.{le-leb}
 use Rattle.numbers.specs.Numbers.{pick}
-use Rattle.numbers.proofs.Numbers.{held-small}
+use Rattle.numbers.proofs.Numbers.{saturated-small}
 use Rattle.refusal.specs.declared.Refusal.the-variants.{ZeroRecordSize, DepthAboveLimit}
 use Rattle.refusal.specs.Answer.{cells, verdictOf}
 use Rattle.refusal.proofs.Answers.{refused-is}
@@ -25,18 +25,18 @@ use Rattle.btree_v2_collect.specs.declared.Tally.{Tally}
 use Rattle.btree_v2_collect.specs.declared.collect.TreeSizes.{TreeSizes}
 use Rattle.btree_v2_header.specs.Answers.{fieldsOf}
 use Rattle.btree_v2_collect.specs.Answers.{Ends}
-use Rattle.btree_v2_collect.specs.Collecting.{countsOf, tallyOf, runOf, heldRun, sourceAt, testsAt, Readable, RootRead, Walked, nodeWalk}
-use Rattle.btree_v2_collect.proofs.Holding.{held-held}
+use Rattle.btree_v2_collect.specs.Collecting.{countsOf, tallyOf, runOf, saturatedRun, sourceAt, testsAt, Readable, RootRead, Walked, nodeWalk}
+use Rattle.btree_v2_collect.proofs.Holding.{saturated-saturated}
 
 -- Held counts or exact ones: the same cells and output.
-cells-held : (x : Run) → runCells (heldRun x) ≡ runCells x
+cells-saturated : (x : Run) → runCells (saturatedRun x) ≡ runCells x
 unfolding runCells
-cells-held (fine c o) = simp held-held
-cells-held (stopped number values c o) = simp held-held
+cells-saturated (fine c o) = simp saturated-saturated
+cells-saturated (stopped number values c o) = simp saturated-saturated
 
-output-held : (x : Run) → runOutput (heldRun x) ≡ runOutput x
-output-held (fine c o) = refl
-output-held (stopped number values c o) = refl
+output-saturated : (x : Run) → runOutput (saturatedRun x) ≡ runOutput x
+output-saturated (fine c o) = refl
+output-saturated (stopped number values c o) = refl
 
 -- An answer's own cells and output.
 cells-of : (v : Verdict) (t o : List ℕ) → runCells (runOf v t o) ≡ cells 3 (verdictOf v) ++ countCells (countsOf t)
@@ -53,7 +53,7 @@ pub record Small (r : Tally) : Type 0 where
   pub records : r .records < 2 ^ 64
   pub leaves : r .leaves < 2 ^ 64
   pub internals : r .internals < 2 ^ 64
-  pub inner : r .inner < 2 ^ 64
+  pub internalRecords : r .«internal_records» < 2 ^ 64
 
 walked-ends : (z : TreeSizes) (x : Run) (v : Verdict) (t o : List ℕ) → Walked z x v t o → (r : Tally) → r ≡ tallyOf t → Small r
     → Ends x (record { verdict = v; tally = r }) o
@@ -62,13 +62,13 @@ walked-ends z x v t o walked r e small =
     let fit : Small (tallyOf t) = rw e at small in
     rw e (
       sym
-          (sym (cells-held x) ∙ ap runCells (sym (walked .ends)) ∙ cells-held (runOf v t o)
-          ∙ rw (held-small _ (fit .records), held-small _ (fit .leaves), held-small _ (fit .internals), held-small _ (fit .inner)) at count),
-      sym (sym (output-held x) ∙ ap runOutput (sym (walked .ends)) ∙ output-held (runOf v t o) ∙ output-of v t o),
+          (sym (cells-saturated x) ∙ ap runCells (sym (walked .ends)) ∙ cells-saturated (runOf v t o)
+          ∙ rw (saturated-small _ (fit .records), saturated-small _ (fit .leaves), saturated-small _ (fit .internals), saturated-small _ (fit .internalRecords)) at count),
+      sym (sym (output-saturated x) ∙ ap runOutput (sym (walked .ends)) ∙ output-saturated (runOf v t o) ∙ output-of v t o),
     )
 
 abbrev nothing : Tally
-nothing = record { records = 0; leaves = 0; internals = 0; inner = 0 }
+nothing = record { records = 0; leaves = 0; internals = 0; «internal_records» = 0 }
 
 -- The tests that need no file, by the header's fields.
 module _ (file : List ℕ) (h : Header) (ow : ℕ) (o : List ℕ) where

@@ -12,7 +12,7 @@ use Rattle.numbers.specs.Numbers.{part}
 use Rattle.numbers.specs.Places.{stored}
 use Rattle.numbers.proofs.Lists.{length-stored, take-stored, drop-stored-end}
 use Rattle.refusal.specs.Answer.{Answer, accepted, refused, orElse}
-use Rattle.btree_v2_collect.specs.Walk.{Counts, Run, fine, stopped, andThen, ifPassed, noCounts, oneLeaf, oneInternal, oneInner, Tests, putRecord, putRecords, leafRun, innerRun, nodeRun}
+use Rattle.btree_v2_collect.specs.Walk.{Counts, Run, fine, stopped, andThen, ifPassed, noCounts, oneLeaf, oneInternal, oneInternalRecord, Tests, putRecord, putRecords, leafRun, ownRecordRun, nodeRun}
 use Rattle.btree_v2_internal.specs.Internal.{Source}
 use Rattle.btree_v2_header.specs.Header.{Header}
 use Rattle.btree_v2_collect.specs.Collect.{collected, sourceOf, runOutput}
@@ -108,14 +108,14 @@ module _ (s : Source) where
 
   -- Of every source, tests and output.
   pub node-fronted : (tests : Tests) (d a n : ℕ) (c : Counts) (o : List ℕ) → Fronted (s .rs) (c .records) o (nodeRun s tests d a n c o)
-  unfolding leafRun innerRun
+  unfolding leafRun ownRecordRun
   node-fronted tests =
       node-walked s tests {N = λ d a n. Front} {C = λ d a n m i. Front} {R = λ d a n i. Front}
       (record {
         leaf = λ a n c o. if-passed (s .rs) (tests .leaf a n) c (puts-front n (a + 6) (oneLeaf c) o);
         internal = λ d a n h c o. if-passed (s .rs) (tests .internal d a n) c (h (oneInternal c) o);
         child = λ d a n i h c o. and-then (s .rs) (h c o) (λ c1 o1. if-passed (s .rs) (tests .child d _ _) c1 (front-fine (s .rs) c1 o1));
-        inner = λ d a n i c o. and-then (s .rs) (put-front _ c o) (λ c1. front-fine (s .rs) (oneInner c1));
+        ownRecord = λ d a n i c o. and-then (s .rs) (put-front _ c o) (λ c1. front-fine (s .rs) (oneInternalRecord c1));
         more = λ f g h c o. and-then (s .rs) (f c o) (λ c1 o1. and-then (s .rs) (g c1 o1) h);
       })
 

@@ -8,7 +8,7 @@ use Rattle.numbers.specs.Places.{stored}
 use Rattle.refusal.specs.Answer.{Answer, accepted, refused}
 use Rattle.plan.specs.Tree.{Kids, Tree, sumKids, between, count, size}
 use Rattle.btree_v2_internal.specs.Internal.{Source, pointerPlace}
-use Rattle.btree_v2_collect.specs.Walk.{Counts, Run, fine, stopped, andThen, ifPassed, oneRecord, oneLeaf, oneInternal, oneInner, Tests, putRecord, putRecords, leafRun, innerRun, nodeRun}
+use Rattle.btree_v2_collect.specs.Walk.{Counts, Run, fine, stopped, andThen, ifPassed, oneRecord, oneLeaf, oneInternal, oneInternalRecord, Tests, putRecord, putRecords, leafRun, ownRecordRun, nodeRun}
 use Rattle.btree_v2_collect.specs.InFile.{atChild, kidsAt, treeAt, treeBytes, ChildrenSound, Sound}
 use Rattle.btree_v2_collect.proofs.Fronts.{node-fronted}
 use Rattle.btree_v2_collect.proofs.Outcomes.{put-cases}
@@ -93,7 +93,7 @@ module _ (s : Source) (tests : Tests) (there : RecordsThere s tests) where
     more : c1 .records ≡ c .records + (sumKids (size d) (kids d a n m i) + m)
 
   reads : Walking s tests (λ d a n f. Where f (NodeRead d a n)) (λ d a n m i f. Where f (ChildrenRead d a n m i)) (λ d a n i. Adds 1)
-  unfolding leafRun innerRun treeAt kidsAt size sumKids
+  unfolding leafRun ownRecordRun treeAt kidsAt size sumKids
   reads =
       record {
         leaf = λ a n c o c1 o1 e.
@@ -123,9 +123,9 @@ module _ (s : Source) (tests : Tests) (there : RecordsThere s tests) where
               sound = record { records = sym (count-tree s d _ _); node = r .sound; after = rw m at (p .passes ∙ ap accepted q) };
               more = omega (arith, same-records (b .counts) c1 (b .output) o1 (p .runs), r .more);
             };
-        inner = λ d a n i c o c1 o1 e.
+        ownRecord = λ d a n i c o c1 o1 e.
             let b = both _ _ c1 o1 e in
-            omega (arith, put-adds s _ c o _ _ (b .first), same-records (oneInner (b .counts)) c1 (b .output) o1 (b .second));
+            omega (arith, put-adds s _ c o _ _ (b .first), same-records (oneInternalRecord (b .counts)) c1 (b .output) o1 (b .second));
         more = λ f g h c o c1 o1 e.
             let b = both _ _ c1 o1 e in
             let k = both _ _ c1 o1 (b .second) in

@@ -35,13 +35,13 @@ sizes-are z l d readable = rw (readable .counts, readable .totals d (le-refl d))
 module _ (file : List ℕ) (z : TreeSizes) where
   pub leaf-tested : (a n : ℕ) (v : Verdict) → verdictOf v ≡ leafTest file (z .«record_size») a n → verdictOf v ≡ testsAt file z .leaf a n
   unfolding collectTests sourceAt
-  leaf-tested a n v told = told
+  leaf-tested a n v code = code
 
   pub node-tested : (x : Node) (d : ℕ) (v : Verdict) (p : Sizes) → p ≡ sizesAbove z d
       → verdictOf v ≡ internalTest (sourceBy file p) 0 (x .address) (x .records)
       → verdictOf v ≡ testsAt file z .internal d (x .address) (x .records)
   unfolding collectTests internalTest pointerWidth sourceBy sourceAt sizesAbove
-  node-tested x d v p e told = rw e at told
+  node-tested x d v p e code = rw e at code
 
   pub none-after : (d p m : ℕ) → accepted [] ≡ testsAt file z .child d p m
   unfolding collectTests
@@ -50,9 +50,9 @@ module _ (file : List ℕ) (z : TreeSizes) where
   -- An internal node that passes has its records, and offsets have one of the sizes.
   pub node-there : (d a n : ℕ) (v : Verdict) → verdictOf v ≡ testsAt file z .internal d a n → v ≡ Accepted → NodeThere (sourceAt file z) a n
   unfolding collectTests
-  node-there d a n v told e =
-      let h = internal-there (sourceAt file z) d a n (sym told ∙ ap verdictOf e) in
-      record { rows = omega (arith, h .0, h .1); offset = h .2 }
+  node-there d a n v code e =
+      let h = internal-there (sourceAt file z) d a n (sym code ∙ ap verdictOf e) in
+      record { records = omega (arith, h .0, h .1); offset = h .2 }
 
 -- An internal node that is read on.
 module _ (file : List ℕ) (z : TreeSizes) (x : Node) (there : NodeThere (sourceAt file z) (x .address) (x .records)) where
@@ -64,9 +64,9 @@ module _ (file : List ℕ) (z : TreeSizes) (x : Node) (there : NodeThere (source
       → (b .address ≡ addressAt file p x i) × (b .records ≡ recordsAt file p x i)
       → ChildAt (sourceAt file z) d (x .address) (x .records) i b
   unfolding childAddress childRecords pointerAt pointerPlace pointerWidth sourceBy sourceAt sizesAbove
-  child-there d p i b e told =
+  child-there d p i b e code =
       let walked = fields-walked file (sizesAbove z d) x i (field-size-le _ offset-there) (count-width-le _ _) in
-      record { address = rw e at (told .0) ∙ walked .0; records = rw e at (told .1) ∙ walked .1 }
+      record { address = rw e at (code .0) ∙ walked .0; records = rw e at (code .1) ∙ walked .1 }
 
   -- Record i.
   module _ (i : ℕ) (h : i < x .records) where
@@ -74,7 +74,7 @@ module _ (file : List ℕ) (z : TreeSizes) (x : Node) (there : NodeThere (source
     unfolding sourceAt
     record-there =
         let j : i + 1 ≤ x .records = omega arith in
-        omega (arith, there .rows, mul-le-mul-right (z .«record_size») j)
+        omega (arith, there .records, mul-le-mul-right (z .«record_size») j)
 
     module _ (l : length file < 2 ^ 64) where
       pub begin-fits : Fits w64 (x .address + 6)

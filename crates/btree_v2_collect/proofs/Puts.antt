@@ -20,11 +20,11 @@ sum c t =
       records = c .records + t .records;
       leaves = c .leaves + t .leaves;
       internals = c .internals + t .internals;
-      inner = c .inner + t .inner;
+      internalRecords = c .internalRecords + t .internalRecords;
     }
 
 abbrev pub tally : ℕ → ℕ → ℕ → ℕ → Counts
-tally r l i k = record { records = r; leaves = l; internals = i; inner = k }
+tally r l i k = record { records = r; leaves = l; internals = i; internalRecords = k }
 
 sum-assoc : (c t u : Counts) → sum (sum c t) u ≡ sum c (sum t u)
 sum-assoc c t u = simp add-assoc

@@ -7,32 +7,32 @@ use native.Mathlib.Omega.{arith}
 use mir.Syntax.{w64}
 use mir.Val.{Fits}
 use lib.ListN.{length, getD}
-use Rattle.numbers.specs.Numbers.{held, part}
+use Rattle.numbers.specs.Numbers.{saturated, part}
 use Rattle.numbers.specs.Places.{stored, put}
 use Rattle.numbers.proofs.Copying.{part-put}
 use Rattle.numbers.proofs.Lists.{length-part, length-stored}
-use Rattle.btree_v2_collect.specs.Walk.{fine, oneLeaf, oneInternal, oneInner, putRecords}
+use Rattle.btree_v2_collect.specs.Walk.{fine, oneLeaf, oneInternal, oneInternalRecord, putRecords}
 use Rattle.btree_v2_collect.proofs.Outcomes.{put-some}
 use Rattle.btree_v2_collect.proofs.Puts.{puts-records}
 use Rattle.refusal.specs.declared.Refusal.the-variants.{OutputTooShort}
 use Rattle.refusal.specs.declared.Verdict.the-variants.{Accepted, Refused}
 use Rattle.btree_v2_collect.specs.declared.collect.TreeSizes.{TreeSizes}
-use Rattle.btree_v2_collect.specs.Collecting.{countsOf, heldCounts, sourceAt, Within, Walked}
-use Rattle.btree_v2_collect.proofs.Holding.{held-held}
+use Rattle.btree_v2_collect.specs.Collecting.{countsOf, saturatedCounts, sourceAt, Within, Walked}
+use Rattle.btree_v2_collect.proofs.Holding.{saturated-saturated}
 
 -- One more of a tally's counts.
 module _ (t : List ℕ) (x : ℕ) where
-  pub leaf-more : x ≡ held (getD t 1 0 + 1)
-      → heldCounts (record { records = getD t 0 0; leaves = x; internals = getD t 2 0; inner = getD t 3 0 }) ≡ heldCounts (oneLeaf (countsOf t))
-  leaf-more e = rw (e, held-held)
+  pub leaf-more : x ≡ saturated (getD t 1 0 + 1)
+      → saturatedCounts (record { records = getD t 0 0; leaves = x; internals = getD t 2 0; internalRecords = getD t 3 0 }) ≡ saturatedCounts (oneLeaf (countsOf t))
+  leaf-more e = rw (e, saturated-saturated)
 
-  pub internal-more : x ≡ held (getD t 2 0 + 1)
-      → heldCounts (record { records = getD t 0 0; leaves = getD t 1 0; internals = x; inner = getD t 3 0 }) ≡ heldCounts (oneInternal (countsOf t))
-  internal-more e = rw (e, held-held)
+  pub internal-more : x ≡ saturated (getD t 2 0 + 1)
+      → saturatedCounts (record { records = getD t 0 0; leaves = getD t 1 0; internals = x; internalRecords = getD t 3 0 }) ≡ saturatedCounts (oneInternal (countsOf t))
+  internal-more e = rw (e, saturated-saturated)
 
-  pub inner-more : x ≡ held (getD t 3 0 + 1)
-      → heldCounts (record { records = getD t 0 0; leaves = getD t 1 0; internals = getD t 2 0; inner = x }) ≡ heldCounts (oneInner (countsOf t))
-  inner-more e = rw (e, held-held)
+  pub own-record-more : x ≡ saturated (getD t 3 0 + 1)
+      → saturatedCounts (record { records = getD t 0 0; leaves = getD t 1 0; internals = getD t 2 0; internalRecords = x }) ≡ saturatedCounts (oneInternalRecord (countsOf t))
+  own-record-more e = rw (e, saturated-saturated)
 
 -- How many records fit.
 abbrev pub Fitting : ℕ → ℕ → ℕ → ℕ → Type 0
@@ -60,33 +60,33 @@ module _ (file : List ℕ) (z : TreeSizes) (from n : ℕ) (t o : List ℕ) (some
   part-room : getD t 0 0 * z .«record_size» + fit * z .«record_size» ≤ length o
   part-room = omega (arith, fits .1)
 
-  rows : (getD t 0 0 + fit) * z .«record_size» ≤ length o
-  rows = rw add-mul part-room
+  records : (getD t 0 0 + fit) * z .«record_size» ≤ length o
+  records = rw add-mul part-room
 
-  pub rows-few : length o < 2 ^ 64 → Fits w64 (getD t 0 0 + fit)
-  rows-few h = omega (arith, rows, le-mul-of-pos-right {m = z .«record_size»} (getD t 0 0 + fit) some)
+  pub records-few : length o < 2 ^ 64 → Fits w64 (getD t 0 0 + fit)
+  records-few h = omega (arith, records, le-mul-of-pos-right {m = z .«record_size»} (getD t 0 0 + fit) some)
 
   module _ (o1 : List ℕ)
       (put : o1 ≡ put o (getD t 0 0 * z .«record_size») (part file from (from + fit * z .«record_size» - from))) where
-    rows-stored : o1 ≡ stored o (getD t 0 0 * z .«record_size») (part file from (fit * z .«record_size»))
-    rows-stored = part-put o file o1 (getD t 0 0 * z .«record_size») from (fit * z .«record_size») part-room part-there put
+    records-stored : o1 ≡ stored o (getD t 0 0 * z .«record_size») (part file from (fit * z .«record_size»))
+    records-stored = part-put o file o1 (getD t 0 0 * z .«record_size») from (fit * z .«record_size») part-room part-there put
 
     long : length o1 ≡ length o
     long =
-        rw (rows-stored, length-stored o (getD t 0 0 * z .«record_size») (part file from (fit * z .«record_size»)) (rw (length-part file from (fit * z .«record_size») part-there) part-room))
+        rw (records-stored, length-stored o (getD t 0 0 * z .«record_size») (part file from (fit * z .«record_size»)) (rw (length-part file from (fit * z .«record_size») part-there) part-room))
 
     abbrev counted : List ℕ
     counted = (getD t 0 0 + fit) ∷ getD t 1 0 ∷ getD t 2 0 ∷ getD t 3 0 ∷ []
 
     runs : putRecords (sourceAt file z) fit from (countsOf t) o ≡ fine (countsOf counted) o1
     unfolding sourceAt
-    runs = rw rows-stored (simp add-zero at (puts-records (sourceAt file z) fit from part-there .runs (countsOf t) o rows))
+    runs = rw records-stored (simp add-zero at (puts-records (sourceAt file z) fit from part-there .runs (countsOf t) o records))
 
     pub put-all : n ≤ fit
         → Walked z (putRecords (sourceAt file z) n from (countsOf t) o) Accepted counted o1
     put-all h =
         let e : n ≡ fit = omega (arith, fits .0) in
-        record { ends = rw (e, runs); within = rw long rows }
+        record { ends = rw (e, runs); within = rw long records }
 
     pub put-part : fit < n
         → Walked z (putRecords (sourceAt file z) n from (countsOf t) o) (Refused (OutputTooShort (length o1))) counted o1
@@ -95,5 +95,5 @@ module _ (file : List ℕ) (z : TreeSizes) (from n : ℕ) (t o : List ℕ) (some
         let short : length o1 < (getD t 0 0 + fit + 1) * z .«record_size» = rw long (omega (arith, fits .2 h)) in
         record {
           ends = rw (put-some (sourceAt file z) fit n from (countsOf t) (countsOf counted) o o1 h runs short);
-          within = rw long rows;
+          within = rw long records;
         }

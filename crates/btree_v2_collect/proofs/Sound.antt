@@ -7,20 +7,20 @@ use native.Mathlib.Omega.{arith}
 use lib.ListN.{length}
 use Rattle.numbers.specs.Numbers.{part}
 use Rattle.refusal.specs.Answer.{Answer, accepted}
-use Rattle.plan.specs.Tree.{Kids, last, more, Tree, sumKids, between, count, size, leaves, internals, inner}
-use Rattle.btree_v2_collect.specs.Walk.{Counts, Run, ifPassed, oneLeaf, oneInternal, oneInner, Tests, leafRun, childRun, innerRun, childrenRun, nodeRun}
+use Rattle.plan.specs.Tree.{Kids, last, more, Tree, sumKids, between, count, size, leaves, internals, internalRecords}
+use Rattle.btree_v2_collect.specs.Walk.{Counts, Run, ifPassed, oneLeaf, oneInternal, oneInternalRecord, Tests, leafRun, childRun, ownRecordRun, childrenRun, nodeRun}
 use Rattle.btree_v2_internal.specs.Internal.{Source, pointerPlace, childAddress}
 use Rattle.btree_v2_collect.specs.InFile.{childrenBytes, treeBytes, ChildSound, ChildrenSound, Sound}
 use Rattle.btree_v2_collect.proofs.Puts.{tally, sum, Puts, puts-then, puts-none, puts-record, puts-records}
 
 -- What the walk counts of a tree.
 abbrev pub treeTally : (d : ℕ) → Tree d → Counts
-treeTally d t = tally (size d t) (leaves d t) (internals d t) (inner d t)
+treeTally d t = tally (size d t) (leaves d t) (internals d t) (internalRecords d t)
 
 -- Of children, and the records between them.
 abbrev childrenTally : (d : ℕ) → Kids (Tree d) → Counts
 childrenTally d ts =
-    tally (sumKids (size d) ts + between ts) (sumKids (leaves d) ts) (sumKids (internals d) ts) (sumKids (inner d) ts + between ts)
+    tally (sumKids (size d) ts + between ts) (sumKids (leaves d) ts) (sumKids (internals d) ts) (sumKids (internalRecords d) ts + between ts)
 
 tally-last : (d : ℕ) (t : Tree d) → treeTally d t ≡ childrenTally d (last t)
 unfolding sumKids between
@@ -51,11 +51,11 @@ module _ (s : Source) (tests : Tests) where
           runs = λ c o l. rw (h .records, p .runs c o l, add-sub-cancel-left, h .after);
         }
 
-    puts-inner : (i : ℕ) → a + 6 + i * s .rs + s .rs ≤ length (s .file)
-        → Puts (s .rs) (innerRun s tests d a n (nodeRun s tests d) i) (part (s .file) (a + 6 + i * s .rs) (s .rs)) (tally 1 0 0 1)
-    unfolding innerRun
-    puts-inner i h =
-        let p = puts-then (s .rs) (puts-record s (a + 6 + i * s .rs) h) (puts-none (s .rs) oneInner (tally 0 0 0 1) refl (λ c. simp add-zero)) in
+    puts-own-record : (i : ℕ) → a + 6 + i * s .rs + s .rs ≤ length (s .file)
+        → Puts (s .rs) (ownRecordRun s tests d a n (nodeRun s tests d) i) (part (s .file) (a + 6 + i * s .rs) (s .rs)) (tally 1 0 0 1)
+    unfolding ownRecordRun
+    puts-own-record i h =
+        let p = puts-then (s .rs) (puts-record s (a + 6 + i * s .rs) h) (puts-none (s .rs) oneInternalRecord (tally 0 0 0 1) refl (λ c. simp add-zero)) in
         rw append-nil at p
 
     puts-children : ((t : Tree d) (b : ℕ) → Sound s tests d t b → Puts (s .rs) (nodeRun s tests d b (count d t)) (treeBytes s d t b) (treeTally d t))
@@ -68,11 +68,11 @@ module _ (s : Source) (tests : Tests) where
         let k : i + 1 ≤ n = omega arith in
         rw (← tally-more)
         (puts-then (s .rs) (puts-child t i _ (h .0) (node t _ (h .0 .node)))
-        (puts-then (s .rs) (puts-inner i (omega (arith, mul-le-mul-right (s .rs) k))) (puts-children node there ts (i + 1) (omega arith) (h .1))))
+        (puts-then (s .rs) (puts-own-record i (omega (arith, mul-le-mul-right (s .rs) k))) (puts-children node there ts (i + 1) (omega arith) (h .1))))
 
   pub puts-node : (d : ℕ) (t : Tree d) (a : ℕ) → Sound s tests d t a
       → Puts (s .rs) (nodeRun s tests d a (count d t)) (treeBytes s d t a) (treeTally d t)
-  unfolding nodeRun leafRun treeBytes count size leaves internals inner
+  unfolding nodeRun leafRun treeBytes count size leaves internals internalRecords
   puts-node zero n a h =
       let p = puts-then (s .rs) (puts-none (s .rs) oneLeaf (tally 0 1 0 0) refl (λ c. simp add-zero)) (puts-records s n (a + 6) (h .there)) in
       puts-if (h .passes) (simp zero-add at p)

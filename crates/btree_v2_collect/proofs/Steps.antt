@@ -7,38 +7,38 @@ use native.Mathlib.Omega.{arith}
 use lib.ListN.{getD}
 use Rattle.refusal.specs.declared.Refusal.{Refusal}
 use Rattle.refusal.specs.Answer.{Answer, verdictOf}
-use Rattle.btree_v2_collect.specs.Walk.{Counts, Run, fine, stopped, andThen, ifPassed, oneLeaf, oneInternal, oneInner, Tests, putRecord, putRecords, leafRun, childRun, innerRun, childrenRun, nodeRun}
+use Rattle.btree_v2_collect.specs.Walk.{Counts, Run, fine, stopped, andThen, ifPassed, oneLeaf, oneInternal, oneInternalRecord, Tests, putRecord, putRecords, leafRun, childRun, ownRecordRun, childrenRun, nodeRun}
 use Rattle.btree_v2_internal.specs.Internal.{Source, pointerPlace}
 use Rattle.refusal.specs.declared.Verdict.{Verdict}
 use Rattle.refusal.specs.declared.Verdict.the-variants.{Accepted, Refused}
 use Rattle.btree_v2_collect.specs.declared.collect.TreeSizes.{TreeSizes}
 use Rattle.btree_v2_internal.specs.declared.Node.{Node}
-use Rattle.btree_v2_collect.specs.Collecting.{countsOf, runOf, heldCounts, heldRun, sourceAt, Readable, Within, ChildAt, ChildrenLeft, Walked, nodeWalk, innerWalk, childrenWalk}
+use Rattle.btree_v2_collect.specs.Collecting.{countsOf, runOf, saturatedCounts, saturatedRun, sourceAt, Readable, Within, ChildAt, ChildrenLeft, Walked, nodeWalk, ownRecordWalk, childrenWalk}
 use Rattle.refusal.proofs.Answers.{refused-is}
-use Rattle.btree_v2_collect.proofs.Holding.{Alike, from-held, records-held, alike-after, count-alike, puts-alike, after-alike, inner-alike, children-alike}
+use Rattle.btree_v2_collect.proofs.Holding.{Alike, from-saturated, records-saturated, alike-after, count-alike, puts-alike, after-alike, own-record-alike, children-alike}
 use Rattle.btree_v2_collect.proofs.Walking.{Step}
 
 -- Counting a leaf or an internal node puts nothing out.
-pub leaf-within : (z : TreeSizes) (t t1 o : List ℕ) → heldCounts (countsOf t1) ≡ heldCounts (oneLeaf (countsOf t)) → Within z t o → Within z t1 o
-leaf-within z t t1 o e h = rw (records-held (oneLeaf (countsOf t)) (countsOf t1) e) h
+pub leaf-within : (z : TreeSizes) (t t1 o : List ℕ) → saturatedCounts (countsOf t1) ≡ saturatedCounts (oneLeaf (countsOf t)) → Within z t o → Within z t1 o
+leaf-within z t t1 o e h = rw (records-saturated (oneLeaf (countsOf t)) (countsOf t1) e) h
 
-pub internal-within : (z : TreeSizes) (t t1 o : List ℕ) → heldCounts (countsOf t1) ≡ heldCounts (oneInternal (countsOf t)) → Within z t o
+pub internal-within : (z : TreeSizes) (t t1 o : List ℕ) → saturatedCounts (countsOf t1) ≡ saturatedCounts (oneInternal (countsOf t)) → Within z t o
     → Within z t1 o
-internal-within z t t1 o e h = rw (records-held (oneInternal (countsOf t)) (countsOf t1) e) h
+internal-within z t t1 o e h = rw (records-saturated (oneInternal (countsOf t)) (countsOf t1) e) h
 
 -- A step, and what follows it.
 module _ {next : Step} (alike : Alike next) {z : TreeSizes} {x : Run} {v : Verdict} {t o : List ℕ} (walked : Walked z x v t o) where
-  after : heldRun (andThen x next) ≡ heldRun (andThen (runOf v t o) next)
+  after : saturatedRun (andThen x next) ≡ saturatedRun (andThen (runOf v t o) next)
   after =
-      sym (alike-after alike x) ∙ ap (λ y. heldRun (andThen y next)) (sym (walked .ends)) ∙ alike-after alike (runOf v t o)
+      sym (alike-after alike x) ∙ ap (λ y. saturatedRun (andThen y next)) (sym (walked .ends)) ∙ alike-after alike (runOf v t o)
 
-  go-on : v ≡ Accepted → heldRun (andThen x next) ≡ heldRun (next (countsOf t) o)
+  go-on : v ≡ Accepted → saturatedRun (andThen x next) ≡ saturatedRun (next (countsOf t) o)
   go-on e = after ∙ rw e
 
   hand-up : (q : Refusal) → v ≡ Refused q → Walked z (andThen x next) v t o
   hand-up q e =
       let stays : andThen (runOf v t o) next ≡ runOf v t o = rw (e, refused-is q .2) in
-      record { ends = sym (after ∙ ap heldRun stays); within = walked .within }
+      record { ends = sym (after ∙ ap saturatedRun stays); within = walked .within }
 
 -- A test that is refused, and one that is passed.
 test-stops : (test : Answer) (v : Verdict) (t o : List ℕ) (x : Run) (q : Refusal) → verdictOf v ≡ test → v ≡ Refused q
@@ -50,7 +50,7 @@ test-passes : (test : Answer) (v : Verdict) (c : Counts) (o : List ℕ) (x : Run
 test-passes test v c o x h e = rw (← h, e)
 
 -- The same walk, put otherwise.
-walked-as : {z : TreeSizes} {x y : Run} {v : Verdict} {t o : List ℕ} → heldRun x ≡ heldRun y → Walked z x v t o → Walked z y v t o
+walked-as : {z : TreeSizes} {x y : Run} {v : Verdict} {t o : List ℕ} → saturatedRun x ≡ saturatedRun y → Walked z x v t o → Walked z y v t o
 walked-as e walked = record { ends = walked .ends ∙ e; within = walked .within }
 
 -- An accepted answer, taken apart.
@@ -82,7 +82,7 @@ module _ (s : Source) (tests : Tests) (d a n : ℕ) (node : ℕ → ℕ → Coun
   run = childrenRun s tests d a n node
 
   abbrev between : ℕ → Counts → List ℕ → Run
-  between = innerRun s tests d a n node
+  between = ownRecordRun s tests d a n node
 
   children-split : (m k i : ℕ) (c : Counts) (o : List ℕ)
       → run (m + suc k) i c o ≡ andThen (andThen (run m i c o) (between (i + m))) (run k (i + m + 1))
@@ -124,16 +124,16 @@ module _ (file : List ℕ) (z : TreeSizes) (tests : Tests) where
     pub leaf-stops : (q : Refusal) → v ≡ Refused q → Within z t o
         → Walked z (nodeWalk file z tests 0 (x .address) (x .records) (countsOf t) o) v t o
     unfolding nodeWalk nodeRun leafRun
-    leaf-stops q e within = record { ends = sym (ap heldRun (test-stops _ v t o _ q tested e)); within = within }
+    leaf-stops q e within = record { ends = sym (ap saturatedRun (test-stops _ v t o _ q tested e)); within = within }
 
-    pub leaf-reads : (t1 : List ℕ) (v1 : Verdict) (t2 o1 : List ℕ) → v ≡ Accepted → heldCounts (countsOf t1) ≡ heldCounts (oneLeaf (countsOf t))
+    pub leaf-reads : (t1 : List ℕ) (v1 : Verdict) (t2 o1 : List ℕ) → v ≡ Accepted → saturatedCounts (countsOf t1) ≡ saturatedCounts (oneLeaf (countsOf t))
         → Walked z (putRecords s (x .records) (x .address + 6) (countsOf t1) o) v1 t2 o1
         → Walked z (nodeWalk file z tests 0 (x .address) (x .records) (countsOf t) o) v1 t2 o1
     unfolding nodeWalk nodeRun leafRun
     leaf-reads t1 v1 t2 o1 e counts =
         walked-as
-        (from-held (puts-alike s (x .records) (x .address + 6)) (oneLeaf (countsOf t)) (countsOf t1) o counts
-        ∙ ap heldRun (sym (test-passes _ v (countsOf t) o _ tested e)))
+        (from-saturated (puts-alike s (x .records) (x .address + 6)) (oneLeaf (countsOf t)) (countsOf t1) o counts
+        ∙ ap saturatedRun (sym (test-passes _ v (countsOf t) o _ tested e)))
 
   -- A node of level d.
   module _ (d a n : ℕ) (t o : List ℕ) where
@@ -150,18 +150,18 @@ module _ (file : List ℕ) (z : TreeSizes) (tests : Tests) where
 
       pub node-stops : (q : Refusal) → v ≡ Refused q → Within z t o → Walked z (nodeWalk file z tests d a n (countsOf t) o) v t o
       node-stops q e within =
-          record { ends = sym (ap heldRun (internal-is ∙ test-stops _ v t o _ q refl e)); within = within }
+          record { ends = sym (ap saturatedRun (internal-is ∙ test-stops _ v t o _ q refl e)); within = within }
 
       module _ (e : v ≡ Accepted) where
-        pub node-reads : (t1 : List ℕ) (v1 : Verdict) (t2 o1 : List ℕ) → heldCounts (countsOf t1) ≡ heldCounts (oneInternal (countsOf t))
+        pub node-reads : (t1 : List ℕ) (v1 : Verdict) (t2 o1 : List ℕ) → saturatedCounts (countsOf t1) ≡ saturatedCounts (oneInternal (countsOf t))
             → Walked z (childrenWalk file z tests (d - 1) a n (n + 1 - 1) 0 (countsOf t1) o) v1 t2 o1
             → Walked z (nodeWalk file z tests d a n (countsOf t) o) v1 t2 o1
         unfolding childrenWalk
         node-reads t1 v1 t2 o1 counts walked =
             let f : n + 1 - 1 ≡ n = omega arith in
             walked-as
-            (from-held (children-alike s tests (d - 1) a n n 0) (oneInternal (countsOf t)) (countsOf t1) o counts
-            ∙ ap heldRun (sym (internal-is ∙ test-passes _ v (countsOf t) o _ refl e)))
+            (from-saturated (children-alike s tests (d - 1) a n n 0) (oneInternal (countsOf t)) (countsOf t1) o counts
+            ∙ ap saturatedRun (sym (internal-is ∙ test-passes _ v (countsOf t) o _ refl e)))
             (rw f at walked)
 
   -- Children of an internal node, `left` of them from child i on.
@@ -181,13 +181,13 @@ module _ (file : List ℕ) (z : TreeSizes) (tests : Tests) where
       child-is = rw (pointer .address, pointer .records, one)
 
       pub child-stops : (q : Refusal) → v ≡ Refused q → Reads v t1 o1
-      child-stops q e = walked-as (ap heldRun child-is) (hand-up (after-alike tests d _ _) walked q e)
+      child-stops q e = walked-as (ap saturatedRun child-is) (hand-up (after-alike tests d _ _) walked q e)
 
       pub child-tested : v ≡ Accepted → (w : Verdict)
           → verdictOf w ≡ tests .child d (pointerPlace s d a n i) (getD t1 0 0 - getD t 0 0) → Reads w t1 o1
-      child-tested e w told =
+      child-tested e w code =
           record {
-            ends = rw told (sym (go-on (after-alike tests d _ _) walked e)) ∙ ap heldRun child-is;
+            ends = rw code (sym (go-on (after-alike tests d _ _) walked e)) ∙ ap saturatedRun child-is;
             within = walked .within;
           }
 
@@ -196,14 +196,14 @@ module _ (file : List ℕ) (z : TreeSizes) (tests : Tests) where
     first-half = childrenWalk file z tests d a n (left / 2 - 1) i (countsOf t) o
 
     abbrev record-between : Counts → List ℕ → Run
-    record-between = innerWalk file z tests d a n (i + left / 2 - 1)
+    record-between = ownRecordWalk file z tests d a n (i + left / 2 - 1)
 
     abbrev second-half : Counts → List ℕ → Run
     second-half = childrenWalk file z tests d a n (left - left / 2 - 1) (i + left / 2)
 
     halves : 0 < left → (left ≡ 1 → ⊥)
         → andThen (andThen first-half record-between) second-half ≡ childrenWalk file z tests d a n (left - 1) i (countsOf t) o
-    unfolding childrenWalk innerWalk
+    unfolding childrenWalk ownRecordWalk
     halves some more =
         let e : left - 1 ≡ left / 2 - 1 + suc (left - left / 2 - 1) = omega arith in
         let f : i + left / 2 - 1 ≡ i + (left / 2 - 1) = omega arith in
@@ -211,8 +211,8 @@ module _ (file : List ℕ) (z : TreeSizes) (tests : Tests) where
         rw (e, f, g) (sym (children-split s tests d a n (nodeRun s tests d) (left / 2 - 1) (left - left / 2 - 1) i (countsOf t) o))
 
     record-alike : Alike record-between
-    unfolding innerWalk
-    record-alike = inner-alike s tests d a n (i + left / 2 - 1)
+    unfolding ownRecordWalk
+    record-alike = own-record-alike s tests d a n (i + left / 2 - 1)
 
     half-alike : Alike second-half
     unfolding childrenWalk
@@ -221,7 +221,7 @@ module _ (file : List ℕ) (z : TreeSizes) (tests : Tests) where
     pub first-stops : 0 < left → (left ≡ 1 → ⊥) → (v : Verdict) (t1 o1 : List ℕ) → Walked z first-half v t1 o1 → (q : Refusal) → v ≡ Refused q
         → Reads v t1 o1
     first-stops some more v t1 o1 first q e =
-        walked-as (ap heldRun (halves some more))
+        walked-as (ap saturatedRun (halves some more))
         (hand-up half-alike (hand-up record-alike first q e) q e)
 
     module _ (l : List ℕ) where
@@ -243,35 +243,35 @@ module _ (file : List ℕ) (z : TreeSizes) (tests : Tests) where
   -- Record i of an internal node: one record put out, and counted.
   module _ (d : ℕ) (x : Node) (i : ℕ) (t o : List ℕ) (v : Verdict) (t1 o1 : List ℕ)
       (put : Walked z (putRecords s 1 (x .address + 6 + i * z .«record_size») (countsOf t) o) v t1 o1) where
-    inner-is : andThen (putRecords s 1 (x .address + 6 + i * z .«record_size») (countsOf t) o) (λ c o. fine (oneInner c) o)
-        ≡ innerWalk file z tests d (x .address) (x .records) i (countsOf t) o
-    unfolding innerWalk innerRun putRecords sourceAt
-    inner-is =
-        ap (λ y. andThen y (λ c o. fine (oneInner c) o))
+    own-record-is : andThen (putRecords s 1 (x .address + 6 + i * z .«record_size») (countsOf t) o) (λ c o. fine (oneInternalRecord c) o)
+        ≡ ownRecordWalk file z tests d (x .address) (x .records) i (countsOf t) o
+    unfolding ownRecordWalk ownRecordRun putRecords sourceAt
+    own-record-is =
+        ap (λ y. andThen y (λ c o. fine (oneInternalRecord c) o))
         (then-same (putRecord s (x .address + 6 + i * z .«record_size») (countsOf t) o) _ (λ c o. refl))
 
-    pub inner-stops : (q : Refusal) → v ≡ Refused q → Walked z (innerWalk file z tests d (x .address) (x .records) i (countsOf t) o) v t1 o1
-    inner-stops q e = walked-as (ap heldRun inner-is) (hand-up count-alike put q e)
+    pub own-record-stops : (q : Refusal) → v ≡ Refused q → Walked z (ownRecordWalk file z tests d (x .address) (x .records) i (countsOf t) o) v t1 o1
+    own-record-stops q e = walked-as (ap saturatedRun own-record-is) (hand-up count-alike put q e)
 
-    pub inner-puts : (t2 : List ℕ) → v ≡ Accepted → heldCounts (countsOf t2) ≡ heldCounts (oneInner (countsOf t1))
-        → Walked z (innerWalk file z tests d (x .address) (x .records) i (countsOf t) o) Accepted t2 o1
-    inner-puts t2 e counts =
+    pub own-record-puts : (t2 : List ℕ) → v ≡ Accepted → saturatedCounts (countsOf t2) ≡ saturatedCounts (oneInternalRecord (countsOf t1))
+        → Walked z (ownRecordWalk file z tests d (x .address) (x .records) i (countsOf t) o) Accepted t2 o1
+    own-record-puts t2 e counts =
         record {
-          ends = ap (λ c. fine c o1) counts ∙ sym (sym (ap heldRun inner-is) ∙ go-on count-alike put e);
-          within = rw (records-held (oneInner (countsOf t1)) (countsOf t2) counts) (put .within);
+          ends = ap (λ c. fine c o1) counts ∙ sym (sym (ap saturatedRun own-record-is) ∙ go-on count-alike put e);
+          within = rw (records-saturated (oneInternalRecord (countsOf t1)) (countsOf t2) counts) (put .within);
         }
 
 -- From where the first half is read on.
 module _ {file : List ℕ} {z : TreeSizes} {tests : Tests} {d a n i left : ℕ} {t o l : List ℕ} where
   -- Record j, put out after the first half, is the one between.
   module _ (first : FirstRead file z tests d a n i left t o l) (j : ℕ) (w : Verdict) (t2 o2 : List ℕ)
-      (put : Walked z (innerWalk file z tests d a n j (countsOf (first .tally)) (first .output)) w t2 o2) (between : j ≡ i + left / 2 - 1) where
+      (put : Walked z (ownRecordWalk file z tests d a n j (countsOf (first .tally)) (first .output)) w t2 o2) (between : j ≡ i + left / 2 - 1) where
     pub two : Walked z (andThen (first-half file z tests d a n i left t o) (record-between file z tests d a n i left t o)) w t2 o2
     two = walked-as (sym (go-on (record-alike file z tests d a n i left t o) (first .walked) refl)) (rw between at put)
 
     pub record-stops : (q : Refusal) → w ≡ Refused q → Reads file z tests d a n i left t o w t2 o2
     record-stops q e =
-        walked-as (ap heldRun (halves file z tests d a n i left t o (first .asked .some) (first .more)))
+        walked-as (ap saturatedRun (halves file z tests d a n i left t o (first .asked .some) (first .more)))
         (hand-up (half-alike file z tests d a n i left t o) two q e)
 
     abbrev pub record-put : w ≡ Accepted → RecordPut file z tests d a n i left t o l
@@ -303,7 +303,7 @@ module _ {file : List ℕ} {z : TreeSizes} {tests : Tests} {d a n i left : ℕ} 
     second-reads u t3 o3 =
         walked-as
         (sym (go-on (half-alike file z tests d a n i left t o) (put .walked) refl)
-        ∙ ap heldRun (halves file z tests d a n i left t o (put .asked .some) (put .more)))
+        ∙ ap saturatedRun (halves file z tests d a n i left t o (put .asked .some) (put .more)))
 
 -- A level below.
 pub readable-under : (z : TreeSizes) (l : List ℕ) (d : ℕ) → Readable z l d → Readable z l (d - 1)

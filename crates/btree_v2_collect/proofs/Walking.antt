@@ -2,7 +2,7 @@
 -- records between them to a run of them, and from the run to their node, holds of the walk over a node of any level.
 use mathlib.Core.List.{List}
 use Prim.Native.Nat.{ℕ, zero, suc, _+_, _-_}
-use Rattle.btree_v2_collect.specs.Walk.{Counts, Run, fine, andThen, ifPassed, oneInternal, Tests, putRecord, putRecords, leafRun, childRun, innerRun, childrenRun, nodeRun}
+use Rattle.btree_v2_collect.specs.Walk.{Counts, Run, fine, andThen, ifPassed, oneInternal, Tests, putRecord, putRecords, leafRun, childRun, ownRecordRun, childrenRun, nodeRun}
 use Rattle.btree_v2_internal.specs.Internal.{Source, pointerPlace, childAddress, childRecords}
 
 abbrev pub Step : Type 0
@@ -33,7 +33,7 @@ module _ (s : Source) (tests : Tests) where
     pub child : (d a n i : ℕ) {node : Step} → N d (childAddress s (pointerPlace s d a n i)) (childRecords s (pointerPlace s d a n i)) node
         → C d a n 0 i
         (λ c o. andThen (node c o) (λ c1 o1. ifPassed (tests .child d (pointerPlace s d a n i) (c1 .records - c .records)) c1 o1 (fine c1 o1)))
-    pub inner : (d a n i : ℕ) → R d a n i (innerRun s tests d a n (nodeRun s tests d) i)
+    pub ownRecord : (d a n i : ℕ) → R d a n i (ownRecordRun s tests d a n (nodeRun s tests d) i)
     pub more : {d a n m i : ℕ} {one between others : Step} → C d a n 0 i one → R d a n i between → C d a n m (i + 1) others
         → C d a n (suc m) i (andStep one (andStep between others))
 
@@ -47,7 +47,7 @@ module _ (s : Source) (tests : Tests) where
         → C d a n m i (childrenRun s tests d a n (nodeRun s tests d) m i)
     unfolding childrenRun
     run-walked d a n zero i each = child-walked d a n i each
-    run-walked d a n (suc m) i each = w .more (child-walked d a n i each) (w .inner d a n i) (run-walked d a n m (i + 1) each)
+    run-walked d a n (suc m) i each = w .more (child-walked d a n i each) (w .ownRecord d a n i) (run-walked d a n m (i + 1) each)
 
     pub node-walked : (d a n : ℕ) → N d a n (nodeRun s tests d a n)
     unfolding nodeRun

@@ -11,7 +11,7 @@ use Rattle.btree_v2_collect.specs.declared.Collected.{Collected}
 abbrev pub collectedCells : Collected → List ℕ
 collectedCells r =
     cells 3 (verdictOf (r .verdict))
-    ++ (r .tally .records ∷ r .tally .leaves ∷ r .tally .internals ∷ r .tally .inner ∷ [])
+    ++ (r .tally .records ∷ r .tally .leaves ∷ r .tally .internals ∷ r .tally .«internal_records» ∷ [])
 
 -- A walk that ends as x, told by an answer and an output.
 abbrev pub Ends : Run → Collected → List ℕ → Type 0

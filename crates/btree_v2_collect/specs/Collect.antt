@@ -3,7 +3,7 @@ use Prim.Native.Nat.{ℕ, _+_, _-_}
 use mathlib.Core.Bool.{not, _||_}
 use mathlib.Core.List.{List, [], _∷_, _++_}
 use lib.Dec.{leb, ltb, eqb}
-use Rattle.numbers.specs.Numbers.{held}
+use Rattle.numbers.specs.Numbers.{saturated}
 use Rattle.refusal.specs.Answer.{accepted, refused, orElse, cells}
 use Rattle.node_info.specs.Capacity.{countWidth, totalWidth}
 use Rattle.btree_v2_collect.specs.Walk.{Counts, Run, fine, stopped, noCounts, Tests, nodeRun}
@@ -29,9 +29,9 @@ collected file h ow out =
     (orElse (leb (h .depth) 32) (stopped 16 (h .depth ∷ []) noCounts out)
     (nodeRun (sourceOf file h ow) (collectTests (sourceOf file h ow)) (h .depth) (h .root) (h .rootRecords) noCounts out)))
 
--- A walk's end as the call gives it: number and two values, and the four counts, each held at 2^64 - 1.
+-- A walk's end as the call gives it: number and two values, and the four counts, each saturated at 2^64 - 1.
 abbrev pub countCells : Counts → List ℕ
-countCells c = held (c .records) ∷ held (c .leaves) ∷ held (c .internals) ∷ held (c .inner) ∷ []
+countCells c = saturated (c .records) ∷ saturated (c .leaves) ∷ saturated (c .internals) ∷ saturated (c .internalRecords) ∷ []
 
 unfoldable pub runCells : Run → List ℕ
 runCells (fine c o) = cells 3 (accepted []) ++ countCells c

@@ -1,13 +1,13 @@
--- The collector's own steps in the terms of the walk: what a tally and an answer say, counts held at 2^64 - 1, and what a step is given
+-- The collector's own steps in the terms of the walk: what a tally and an answer say, counts saturated at 2^64 - 1, and what a step is given
 -- and leaves.
 use Prim.Native.Nat.{ℕ, _+_, _*_, _≤_, _<_}
 use mathlib.Core.Path.{_≡_}
 use mathlib.Core.List.{List}
 use lib.ListN.{length, getD}
 use mathlib.Core.Bool.{true}
-use Rattle.numbers.specs.Numbers.{held, fieldSize}
+use Rattle.numbers.specs.Numbers.{saturated, fieldSize}
 use Rattle.node_info.specs.Capacity.{countWidth, totalWidth}
-use Rattle.btree_v2_collect.specs.Walk.{Counts, Run, fine, stopped, ifPassed, Tests, innerRun, childrenRun, nodeRun}
+use Rattle.btree_v2_collect.specs.Walk.{Counts, Run, fine, stopped, ifPassed, Tests, ownRecordRun, childrenRun, nodeRun}
 use Rattle.btree_v2_internal.specs.Internal.{Source, pointerPlace, childAddress, childRecords}
 use Rattle.btree_v2_collect.specs.Collect.{collectTests}
 use Rattle.refusal.specs.Answer.{verdictOf}
@@ -20,24 +20,24 @@ use Rattle.btree_v2_internal.specs.declared.Node.{Node}
 
 -- The counts of a tally of four numbers.
 abbrev pub countsOf : List ℕ → Counts
-countsOf t = record { records = getD t 0 0; leaves = getD t 1 0; internals = getD t 2 0; inner = getD t 3 0 }
+countsOf t = record { records = getD t 0 0; leaves = getD t 1 0; internals = getD t 2 0; internalRecords = getD t 3 0 }
 
 -- Such a tally as the answer has it.
 abbrev pub tallyOf : List ℕ → Tally
-tallyOf t = record { records = getD t 0 0; leaves = getD t 1 0; internals = getD t 2 0; inner = getD t 3 0 }
+tallyOf t = record { records = getD t 0 0; leaves = getD t 1 0; internals = getD t 2 0; «internal_records» = getD t 3 0 }
 
 -- How far a walk has come by an answer, a tally and an output.
 abbrev pub runOf : Verdict → List ℕ → List ℕ → Run
 runOf v t o = ifPassed (verdictOf v) (countsOf t) o (fine (countsOf t) o)
 
--- Counts with those of nodes and of records from internal nodes held. The records put out are in the output and need it not.
-abbrev pub heldCounts : Counts → Counts
-heldCounts c =
-    record { records = c .records; leaves = held (c .leaves); internals = held (c .internals); inner = held (c .inner) }
+-- Counts with those of nodes and of records from internal nodes saturated. The records put out are in the output and need it not.
+abbrev pub saturatedCounts : Counts → Counts
+saturatedCounts c =
+    record { records = c .records; leaves = saturated (c .leaves); internals = saturated (c .internals); internalRecords = saturated (c .internalRecords) }
 
-abbrev pub heldRun : Run → Run
-heldRun (fine c o) = fine (heldCounts c) o
-heldRun (stopped number values c o) = stopped number values (heldCounts c) o
+abbrev pub saturatedRun : Run → Run
+saturatedRun (fine c o) = fine (saturatedCounts c) o
+saturatedRun (stopped number values c o) = stopped number values (saturatedCounts c) o
 
 -- The file as a walk by these sizes goes over it, and collecting's tests there.
 unfoldable pub sourceAt : List ℕ → TreeSizes → Source
@@ -76,7 +76,7 @@ Within z t o = getD t 0 0 * z .«record_size» ≤ length o
 
 -- What the tests of an internal node at a with n records have shown where it is read on: its records are there, and offsets have one of the sizes.
 pub record NodeThere (s : Source) (a n : ℕ) : Type 0 where
-  pub rows : a + 6 + n * s .rs ≤ length (s .file)
+  pub records : a + 6 + n * s .rs ≤ length (s .file)
   pub offset : fieldSize (s .ow) ≡ true
 
 -- The child that pointer i of the internal node at a with n records leads to, where the children have level d.
@@ -99,9 +99,9 @@ pub record RootRead (h : BTreeV2Header) : Type 0 where
   pub sized : h .«record_size» ≡ 0 → ⊥
   pub deep : h .depth ≤ 32
 
--- The walk x ends as the answer v, the tally t and the output o say, all counts held; and the records put out are within the output.
+-- The walk x ends as the answer v, the tally t and the output o say, all counts saturated; and the records put out are within the output.
 pub record Walked (z : TreeSizes) (x : Run) (v : Verdict) (t o : List ℕ) : Type 0 where
-  pub ends : heldRun (runOf v t o) ≡ heldRun x
+  pub ends : saturatedRun (runOf v t o) ≡ saturatedRun x
   pub within : Within z t o
 
 -- The walk by these sizes and by any tests.
@@ -112,8 +112,8 @@ module _ (file : List ℕ) (z : TreeSizes) (tests : Tests) where
 
   -- Over record i, and over m + 1 children from child i on with the records between them, of such a node whose children have level d.
   module _ (d a n : ℕ) where
-    unfoldable pub innerWalk : ℕ → Counts → List ℕ → Run
-    innerWalk = innerRun (sourceAt file z) tests d a n (nodeRun (sourceAt file z) tests d)
+    unfoldable pub ownRecordWalk : ℕ → Counts → List ℕ → Run
+    ownRecordWalk = ownRecordRun (sourceAt file z) tests d a n (nodeRun (sourceAt file z) tests d)
 
     unfoldable pub childrenWalk : ℕ → ℕ → Counts → List ℕ → Run
     childrenWalk = childrenRun (sourceAt file z) tests d a n (nodeRun (sourceAt file z) tests d)

@@ -14,7 +14,7 @@ pub record Counts : Type 0 where
   pub records : ℕ
   pub leaves : ℕ
   pub internals : ℕ
-  pub inner : ℕ
+  pub internalRecords : ℕ
 
 -- How far a walk has come: the counts and the output, either fine so far or stopped by a refusal.
 pub data Run : Type 0 where
@@ -32,19 +32,19 @@ ifPassed (accepted figures) c o next = next
 ifPassed (refused number values) c o next = stopped number values c o
 
 abbrev pub noCounts : Counts
-noCounts = record { records = 0; leaves = 0; internals = 0; inner = 0 }
+noCounts = record { records = 0; leaves = 0; internals = 0; internalRecords = 0 }
 
 abbrev pub oneRecord : Counts → Counts
-oneRecord c = record { records = c .records + 1; leaves = c .leaves; internals = c .internals; inner = c .inner }
+oneRecord c = record { records = c .records + 1; leaves = c .leaves; internals = c .internals; internalRecords = c .internalRecords }
 
 abbrev pub oneLeaf : Counts → Counts
-oneLeaf c = record { records = c .records; leaves = c .leaves + 1; internals = c .internals; inner = c .inner }
+oneLeaf c = record { records = c .records; leaves = c .leaves + 1; internals = c .internals; internalRecords = c .internalRecords }
 
 abbrev pub oneInternal : Counts → Counts
-oneInternal c = record { records = c .records; leaves = c .leaves; internals = c .internals + 1; inner = c .inner }
+oneInternal c = record { records = c .records; leaves = c .leaves; internals = c .internals + 1; internalRecords = c .internalRecords }
 
-abbrev pub oneInner : Counts → Counts
-oneInner c = record { records = c .records; leaves = c .leaves; internals = c .internals; inner = c .inner + 1 }
+abbrev pub oneInternalRecord : Counts → Counts
+oneInternalRecord c = record { records = c .records; leaves = c .leaves; internals = c .internals; internalRecords = c .internalRecords + 1 }
 
 -- The walk's tests: of a leaf at an address with a record count; of an internal node by the level of its children, at an address with a
 -- record count; and after a child, by its level, the place of its pointer and the number of records that it put out.
@@ -83,14 +83,14 @@ module _ (s : Source) (tests : Tests) where
         (λ c1 o1. ifPassed (tests .child d p (c1 .records - c .records)) c1 o1 (fine c1 o1))
 
     -- Record i of the node.
-    unfoldable pub innerRun : ℕ → Counts → List ℕ → Run
-    innerRun i c o = andThen (putRecord s (a + 6 + i * s .rs) c o) (λ c1 o1. fine (oneInner c1) o1)
+    unfoldable pub ownRecordRun : ℕ → Counts → List ℕ → Run
+    ownRecordRun i c o = andThen (putRecord s (a + 6 + i * s .rs) c o) (λ c1 o1. fine (oneInternalRecord c1) o1)
 
     -- Child i and, while records are left, record i and what follows.
     unfoldable pub childrenRun : ℕ → ℕ → Counts → List ℕ → Run
     childrenRun zero i c o = childRun i c o
     childrenRun (suc left) i c o =
-        andThen (childRun i c o) (λ c1 o1. andThen (innerRun i c1 o1) (childrenRun left (i + 1)))
+        andThen (childRun i c o) (λ c1 o1. andThen (ownRecordRun i c1 o1) (childrenRun left (i + 1)))
 
   -- The walk over the node of level d at address a with n records.
   unfoldable pub nodeRun : ℕ → ℕ → ℕ → Counts → List ℕ → Run

@@ -5,11 +5,11 @@ ghost use mathlib.Core.List.{[]};
 ghost use Prim.Native.Nat.{ℕ, _+_, _-_, _*_, _^_, _≤_, _<_};
 ghost use lib.ListN.{length};
 ghost use Rattle.refusal.specs.Answer.{accepted, verdictOf};
-ghost use Rattle.btree_v2_collect.specs.Walk.{oneLeaf, oneInternal, oneInner, putRecords};
+ghost use Rattle.btree_v2_collect.specs.Walk.{oneLeaf, oneInternal, oneInternalRecord, putRecords};
 ghost use Rattle.btree_v2_collect.specs.Collect.{collected, runCells, runOutput};
 ghost use Rattle.btree_v2_header.specs.Answers.{fieldsOf};
 ghost use Rattle.btree_v2_collect.specs.Answers.{collectedCells, Ends};
-ghost use Rattle.btree_v2_collect.specs.Collecting.{countsOf, tallyOf, heldCounts, sourceAt, testsAt, Readable, Within, NodeThere, ChildAt, ChildrenLeft, RootRead, Walked, sizesAbove, nodeWalk, innerWalk, childrenWalk};
+ghost use Rattle.btree_v2_collect.specs.Collecting.{countsOf, tallyOf, saturatedCounts, sourceAt, testsAt, Readable, Within, NodeThere, ChildAt, ChildrenLeft, RootRead, Walked, sizesAbove, nodeWalk, ownRecordWalk, childrenWalk};
 use crate::Collected;
 use crate::Tally;
 use btree_v2_header::BTreeV2Header;
@@ -31,24 +31,24 @@ struct TreeSizes {
 // A tally: records put out, leaves read, internal nodes read, and records from internal nodes. One leaf more, one internal node, or one record
 // from an internal node.
 fn one_leaf(tally: &mut [u64; 4])
-    ensures { λ _. ⌜ heldCounts (countsOf (now (tally .exit))) ≡ heldCounts (oneLeaf (countsOf (now (tally .entry)))) ⌝ }
+    ensures { λ _. ⌜ saturatedCounts (countsOf (now (tally .exit))) ≡ saturatedCounts (oneLeaf (countsOf (now (tally .entry)))) ⌝ }
 {
     let leaves = numbers::saturating_add(tally[1], 1);
     *tally = [tally[0], leaves, tally[2], tally[3]];
 }
 
 fn one_internal(tally: &mut [u64; 4])
-    ensures { λ _. ⌜ heldCounts (countsOf (now (tally .exit))) ≡ heldCounts (oneInternal (countsOf (now (tally .entry)))) ⌝ }
+    ensures { λ _. ⌜ saturatedCounts (countsOf (now (tally .exit))) ≡ saturatedCounts (oneInternal (countsOf (now (tally .entry)))) ⌝ }
 {
     let internals = numbers::saturating_add(tally[2], 1);
     *tally = [tally[0], tally[1], internals, tally[3]];
 }
 
-fn one_inner(tally: &mut [u64; 4])
-    ensures { λ _. ⌜ heldCounts (countsOf (now (tally .exit))) ≡ heldCounts (oneInner (countsOf (now (tally .entry)))) ⌝ }
+fn one_internal_record(tally: &mut [u64; 4])
+    ensures { λ _. ⌜ saturatedCounts (countsOf (now (tally .exit))) ≡ saturatedCounts (oneInternalRecord (countsOf (now (tally .entry)))) ⌝ }
 {
-    let inner = numbers::saturating_add(tally[3], 1);
-    *tally = [tally[0], tally[1], tally[2], inner];
+    let internal_records = numbers::saturating_add(tally[3], 1);
+    *tally = [tally[0], tally[1], tally[2], internal_records];
 }
 
 // How many of n records of this size fit into `room` bytes.
@@ -57,11 +57,11 @@ fn fitting(n: u16, size: u16, room: usize) -> usize
     ensures { λ r. ⌜ (r ≤ n) × (r * size ≤ room) × (r < n → room < (r + 1) * size) ⌝ }
 {
     let all = n as usize;
-    let wide = size as usize;
-    if all * wide <= room {
+    let each = size as usize;
+    if all * each <= room {
         return all;
     }
-    room / wide
+    room / each
 }
 
 // Puts n records from place `from` of the file on out, after those that are there: as many as fit, and 15 where one does not.
@@ -154,7 +154,7 @@ fn child_of(
 }
 
 // Puts record i of an internal node out.
-fn put_inner(
+fn put_own_record(
     file: &[u8],
     sizes: TreeSizes,
     under: usize,
@@ -165,14 +165,14 @@ fn put_inner(
 ) -> Verdict
     requires { ⌜ NodeThere (sourceAt (now file) sizes) (node .address) (node .records) ⌝ }
     requires { ⌜ (i < node .records) × (0 < sizes .«record_size») × (Within sizes (now tally) (now output)) ⌝ }
-    ensures { λ r. ⌜ Walked sizes (innerWalk (now (file .entry)) sizes (testsAt (now (file .entry)) sizes) under (node .address) (node .records) i (countsOf (now (tally .entry))) (now (output .entry))) r (now (tally .exit)) (now (output .exit)) ⌝ }
+    ensures { λ r. ⌜ Walked sizes (ownRecordWalk (now (file .entry)) sizes (testsAt (now (file .entry)) sizes) under (node .address) (node .records) i (countsOf (now (tally .entry))) (now (output .entry))) r (now (tally .exit)) (now (output .exit)) ⌝ }
 {
     let from = node.address as usize + 6 + i * (sizes.record_size as usize);
     let verdict = put_records(file, sizes, from, 1, tally, output);
     let Verdict::Accepted = verdict else {
         return verdict;
     };
-    one_inner(tally);
+    one_internal_record(tally);
     Verdict::Accepted
 }
 
@@ -278,7 +278,7 @@ fn collect_children(
         return read;
     };
     let between = i + half - 1;
-    read = put_inner(file, sizes, under, node, between, tally, output);
+    read = put_own_record(file, sizes, under, node, between, tally, output);
     let Verdict::Accepted = read else {
         return read;
     };
@@ -308,7 +308,7 @@ fn tally_of(tally: &[u64; 4]) -> Tally
         records: tally[0],
         leaves: tally[1],
         internals: tally[2],
-        inner: tally[3],
+        internal_records: tally[3],
     }
 }
 
@@ -360,7 +360,7 @@ pub fn collect_btree_v2_records(
         records: 0,
         leaves: 0,
         internals: 0,
-        inner: 0,
+        internal_records: 0,
     };
     if header.total_records == 0 {
         return Collected {

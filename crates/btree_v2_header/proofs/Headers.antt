@@ -42,13 +42,13 @@ begun file o ow h s z f =
 
 module _ (file : List ℕ) (o ow lw : ℕ) where
   -- What `ensure_len` says of `count` bytes from o on; and that a refusal for want of these is the answer.
-  abbrev Told : ℕ → Verdict → Type 0
-  Told count v = verdictOf v ≡ needs (o + count) (length file) (accepted [])
+  abbrev Code : ℕ → Verdict → Type 0
+  Code count v = verdictOf v ≡ needs (o + count) (length file) (accepted [])
 
   abbrev Stop : ℕ → Type 0
-  Stop count = (v : Verdict) (r : Refusal) → v ≡ Refused r → Told count v → refusalOf r ≡ parsed file o ow lw
+  Stop count = (v : Verdict) (r : Refusal) → v ≡ Refused r → Code count v → refusalOf r ≡ parsed file o ow lw
 
-  missing : (count : ℕ) (v : Verdict) (r : Refusal) → v ≡ Refused r → Told count v → (rest : Answer)
+  missing : (count : ℕ) (v : Verdict) (r : Refusal) → v ≡ Refused r → Code count v → (rest : Answer)
       → needs (o + count) (length file) rest ≡ refusalOf r
   missing count v r e h = bytes-missing (o + count) (length file) v h r e
 
@@ -125,16 +125,16 @@ module _ (file : List ℕ) (o ow lw : ℕ) where
             stop-sum v r e h = rw (begins, le-leb _ _ h1, le-leb _ _ h2, sized, le-leb _ _ h3, missing (16 + ow + 2 + lw + 4) v r e h)
 
             module _ (h4 : o + (16 + ow + 2 + lw + 4) ≤ length file) (v : Verdict)
-                (told : verdictOf v ≡ checksumTest file o (o + (16 + ow + 2 + lw)) (accepted [])) where
+                (code : verdictOf v ≡ checksumTest file o (o + (16 + ow + 2 + lw)) (accepted [])) where
               pub stop-checksum : (r : Refusal) → v ≡ Refused r → refusalOf r ≡ parsed file o ow lw
               unfolding tests
               stop-checksum r s =
-                  rw (begins, le-leb _ _ h1, le-leb _ _ h2, sized, le-leb _ _ h3, le-leb _ _ h4, sum-wrong file o _ v told r s)
+                  rw (begins, le-leb _ _ h1, le-leb _ _ h2, sized, le-leb _ _ h3, le-leb _ _ h4, sum-wrong file o _ v code r s)
 
               pub passed : (h : Header) → v ≡ Accepted → h ≡ headerAt file o ow lw → accepted (headerFigures h) ≡ parsed file o ow lw
               unfolding tests
               passed h s e =
-                  rw (begins, le-leb _ _ h1, le-leb _ _ h2, sized, le-leb _ _ h3, le-leb _ _ h4, sum-right file o _ v told s, e)
+                  rw (begins, le-leb _ _ h1, le-leb _ _ h2, sized, le-leb _ _ h3, le-leb _ _ h4, sum-right file o _ v code s, e)
 
 -- Of `len` bytes: where the whole header is there, so are its fields; where its first 16 bytes are, so is each of these.
 pub fields-there : (len o ow lw : ℕ) → o + (16 + ow + 2 + lw + 4) ≤ len → o + 18 + ow + lw ≤ len

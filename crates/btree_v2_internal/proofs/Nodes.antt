@@ -9,9 +9,9 @@ use lib.ListN.{length, length-take, length-drop}
 use mir.Syntax.{w64}
 use mir.Val.{Fits}
 use borrow.Author.Tests.{le-leb}
-use Rattle.numbers.specs.Numbers.{part, num, held, fieldSize}
-use Rattle.numbers.proofs.Copying.{part-held}
-use Rattle.numbers.proofs.Numbers.{held-add}
+use Rattle.numbers.specs.Numbers.{part, num, saturated, fieldSize}
+use Rattle.numbers.proofs.Copying.{part-saturated}
+use Rattle.numbers.proofs.Numbers.{saturated-add}
 use Rattle.refusal.specs.declared.Refusal.{Refusal}
 use Rattle.refusal.specs.Answer.{Answer, accepted, refused, orElse, verdictOf}
 use Rattle.format.specs.Bytes.{internalSignature}
@@ -43,9 +43,9 @@ module _ (s : Source) (d a n : ℕ) where
   unfolding internalTest internalBody
   internal-there passes =
       let both = passed-both (frontTest (s .file) internalSignature a) _ [] passes in
-      let rows = there (6 + n * s .rs) (length (s .file) - a) [] _ (both .2) in
-      let pointers = there (6 + n * s .rs + (n + 1) * pointerWidth s d) (length (s .file) - a) [] _ (rows .1) in
-      (front-there (s .file) internalSignature a _ (both .1), rows .0, passed (fieldSize (s .ow)) 4 (s .ow ∷ []) [] _ (pointers .1) .0)
+      let records = there (6 + n * s .rs) (length (s .file) - a) [] _ (both .2) in
+      let pointers = there (6 + n * s .rs + (n + 1) * pointerWidth s d) (length (s .file) - a) [] _ (records .1) in
+      (front-there (s .file) internalSignature a _ (both .1), records .0, passed (fieldSize (s .ow)) 4 (s .ow ∷ []) [] _ (pointers .1) .0)
 
 -- Pointers of w bytes, at most one more than a node may have records; and those before pointer i, with the node's records.
 module _ (w : ℕ) (narrow : w < 1024) where
@@ -59,25 +59,25 @@ module _ (w : ℕ) (narrow : w < 1024) where
   before-fits n k i few size h = omega (arith, pointers-small i (omega arith), product-small n k few size)
 
 -- The bytes of a pointer, as `pointer_size` gives them.
-abbrev Wide : Sizes → ℕ → Type 0
-Wide z w = (w ≡ pointerSizeBy z) × (w < 1024)
+abbrev PointerSized : Sizes → ℕ → Type 0
+PointerSized z w = (w ≡ pointerSizeBy z) × (w < 1024)
 
 -- `check_internal`: the front, and the body where the front is accepted.
-module _ (file : List ℕ) (z : Sizes) (x : Node) (front : Verdict) (told : verdictOf front ≡ frontTest file internalSignature (x .address)) where
+module _ (file : List ℕ) (z : Sizes) (x : Node) (front : Verdict) (code : verdictOf front ≡ frontTest file internalSignature (x .address)) where
   pub internal-front : (q : Refusal) → front ≡ Refused q → verdictOf front ≡ internalTest (sourceBy file z) 0 (x .address) (x .records)
   unfolding internalTest sourceBy
-  internal-front = first-refuses front _ _ told
+  internal-front = first-refuses front _ _ code
 
   pub internal-body : front ≡ Accepted → (body : Verdict)
       → verdictOf body ≡ internalBody file (z .«record_size») (z .«offset_size») (pointerSizeBy z) (x .address) (x .records)
       → verdictOf body ≡ internalTest (sourceBy file z) 0 (x .address) (x .records)
   unfolding internalTest pointerWidth sourceBy
-  internal-body e body rest = rw (first-accepts front _ _ told e) rest
+  internal-body e body rest = rw (first-accepts front _ _ code e) rest
 
 -- `check_body`: the tests, in their order, of the part of the file from the node on.
 module _ (file : List ℕ) (z : Sizes) (x : Node) where
-  abbrev rowsEnd : ℕ
-  rowsEnd = recordsEnd (z .«record_size») (x .records)
+  abbrev recordsEndAt : ℕ
+  recordsEndAt = recordsEnd (z .«record_size») (x .records)
 
   abbrev answer : Answer
   answer = internalBody file (z .«record_size») (z .«offset_size») (pointerSizeBy z) (x .address) (x .records)
@@ -88,49 +88,49 @@ module _ (file : List ℕ) (z : Sizes) (x : Node) where
   behind-length : (rest : List ℕ) → Behind rest → length file - x .address ≡ length rest
   behind-length rest is = rw is (simp (length-take, length-drop) (omega arith))
 
-  pub body-records : (rest : List ℕ) (rows : Verdict) → verdictOf rows ≡ needs rowsEnd (length rest) (accepted []) → (q : Refusal)
-      → rows ≡ Refused q → Behind rest → verdictOf rows ≡ answer
+  pub body-records : (rest : List ℕ) (records : Verdict) → verdictOf records ≡ needs recordsEndAt (length rest) (accepted []) → (q : Refusal)
+      → records ≡ Refused q → Behind rest → verdictOf records ≡ answer
   unfolding internalBody
-  body-records rest rows told q e is = rw (behind-length rest is, e) (sym (bytes-missing rowsEnd (length rest) rows told q e _))
+  body-records rest records code q e is = rw (behind-length rest is, e) (sym (bytes-missing recordsEndAt (length rest) records code q e _))
 
   module _ (rest : List ℕ) (w : ℕ) (pointers : Verdict)
-      (told : verdictOf pointers ≡ needs (rowsEnd + (x .records + 1) * w) (length rest) (accepted [])) where
-    pub body-pointers : (q : Refusal) → pointers ≡ Refused q → rowsEnd ≤ length rest → Behind rest → Wide z w → verdictOf pointers ≡ answer
+      (code : verdictOf pointers ≡ needs (recordsEndAt + (x .records + 1) * w) (length rest) (accepted [])) where
+    pub body-pointers : (q : Refusal) → pointers ≡ Refused q → recordsEndAt ≤ length rest → Behind rest → PointerSized z w → verdictOf pointers ≡ answer
     unfolding internalBody
-    body-pointers q e h is wide =
-        rw (behind-length rest is, le-leb _ _ h, ← wide .0, e)
-        (sym (bytes-missing (rowsEnd + (x .records + 1) * w) (length rest) pointers told q e _))
+    body-pointers q e h is pointer-sized =
+        rw (behind-length rest is, le-leb _ _ h, ← pointer-sized .0, e)
+        (sym (bytes-missing (recordsEndAt + (x .records + 1) * w) (length rest) pointers code q e _))
 
     module _ (s : Bool) (size : s ≡ fieldSize (z .«offset_size»)) where
-      sized : pointers ≡ Accepted → Behind rest → Wide z w → answer ≡ orElse s (refused 4 (z .«offset_size» ∷ [])) (accepted [])
+      sized : pointers ≡ Accepted → Behind rest → PointerSized z w → answer ≡ orElse s (refused 4 (z .«offset_size» ∷ [])) (accepted [])
       unfolding internalBody
-      sized all is wide =
-          let h = bytes-there (rowsEnd + (x .records + 1) * w) (length rest) pointers told all in
-          rw (behind-length rest is, le-leb rowsEnd (length rest) (omega arith), ← wide .0, le-leb _ _ h, ← size)
+      sized all is pointer-sized =
+          let h = bytes-there (recordsEndAt + (x .records + 1) * w) (length rest) pointers code all in
+          rw (behind-length rest is, le-leb recordsEndAt (length rest) (omega arith), ← pointer-sized .0, le-leb _ _ h, ← size)
 
-      pub body-fine : s ≡ true → pointers ≡ Accepted → Behind rest → Wide z w → accepted [] ≡ answer
-      body-fine e all is wide = rw (sized all is wide, e)
+      pub body-fine : s ≡ true → pointers ≡ Accepted → Behind rest → PointerSized z w → accepted [] ≡ answer
+      body-fine e all is pointer-sized = rw (sized all is pointer-sized, e)
 
-      pub body-size : s ≡ false → pointers ≡ Accepted → Behind rest → Wide z w → refused 4 (z .«offset_size» ∷ []) ≡ answer
-      body-size e all is wide = rw (sized all is wide, e)
+      pub body-size : s ≡ false → pointers ≡ Accepted → Behind rest → PointerSized z w → refused 4 (z .«offset_size» ∷ []) ≡ answer
+      body-size e all is pointer-sized = rw (sized all is pointer-sized, e)
 
 module _ (file : List ℕ) (z : Sizes) (x : Node) where
-  -- `read_pointer`: the fields of pointer i. No file reaches a place that is held.
-  at-held : (p k : ℕ) → length file < 2 ^ 64 → num file (held p) k ≡ num file p k
+  -- `read_pointer`: the fields of pointer i. No file reaches a place that is saturated.
+  at-saturated : (p k : ℕ) → length file < 2 ^ 64 → num file (saturated p) k ≡ num file p k
   unfolding num
-  at-held p k small = rw (part-held file p k small)
+  at-saturated p k small = rw (part-saturated file p k small)
 
   module _ (i w : ℕ) where
-    place : Wide z w → x .address + (recordsEnd (z .«record_size») (x .records) + i * w) ≡ pointerAt file z x i
+    place : PointerSized z w → x .address + (recordsEnd (z .«record_size») (x .records) + i * w) ≡ pointerAt file z x i
     unfolding pointerAt pointerPlace pointerWidth sourceBy
-    place wide = rw (wide .0) (omega arith)
+    place pointer-sized = rw (pointer-sized .0) (omega arith)
 
     pub pointer-is : (at next a n : ℕ) → a ≡ num file at (min (z .«offset_size») 8) → n ≡ num file next (min (z .«count_size») 8)
-        → next ≡ held (at + z .«offset_size») → at ≡ held (x .address + (recordsEnd (z .«record_size») (x .records) + i * w))
-        → Wide z w → length file < 2 ^ 64 → (a ≡ addressAt file z x i) × (n % 65536 ≡ recordsAt file z x i)
+        → next ≡ saturated (at + z .«offset_size») → at ≡ saturated (x .address + (recordsEnd (z .«record_size») (x .records) + i * w))
+        → PointerSized z w → length file < 2 ^ 64 → (a ≡ addressAt file z x i) × (n % 65536 ≡ recordsAt file z x i)
     unfolding addressAt recordsAt
-    pointer-is at next a n ha hn hnext hat wide small =
-        (rw (ha, hat, at-held _ _ small, place wide), rw (hn, hnext, hat, held-add, at-held _ _ small, place wide))
+    pointer-is at next a n ha hn hnext hat pointer-sized small =
+        (rw (ha, hat, at-saturated _ _ small, place pointer-sized), rw (hn, hnext, hat, saturated-add, at-saturated _ _ small, place pointer-sized))
 
   -- Where no field has more than 8 bytes, these are the address and the count of a walk.
   pub fields-walked : (i : ℕ) → z .«offset_size» ≤ 8 → z .«count_size» ≤ 8

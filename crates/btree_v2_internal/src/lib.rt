@@ -52,9 +52,9 @@ pub fn check_body(file: &[u8], sizes: Sizes, node: Node) -> Verdict
     let Verdict::Accepted = records else {
         return records;
     };
-    let wide = pointer_size(sizes);
+    let pointer = pointer_size(sizes);
     let end = read_checks::PREFIX_SIZE + bytes;
-    let pointers = read_checks::ensure_len(rest, end, ((node.records as u64) + 1) * wide);
+    let pointers = read_checks::ensure_len(rest, end, ((node.records as u64) + 1) * pointer);
     let Verdict::Accepted = pointers else {
         return pointers;
     };
@@ -64,7 +64,7 @@ pub fn check_body(file: &[u8], sizes: Sizes, node: Node) -> Verdict
     Verdict::Refused(Refusal::InvalidOffsetSize(sizes.offset_size))
 }
 
-// The child that pointer i of an internal node leads to. A place that is held at 2^64 - 1 is past the end of every file.
+// The child that pointer i of an internal node leads to. A place that is saturated at 2^64 - 1 is past the end of every file.
 pub fn read_pointer(file: &[u8], sizes: Sizes, node: Node, i: u16) -> Node
     ensures { λ r. ⌜ (r .address ≡ addressAt (now (file .entry)) sizes node i) × (r .records ≡ recordsAt (now (file .entry)) sizes node i) ⌝ }
 {

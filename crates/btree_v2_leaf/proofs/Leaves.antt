@@ -19,24 +19,24 @@ use Rattle.read_checks.proofs.Checks.{bytes-missing, first-refuses, first-accep
 
 module _ (file : List ℕ) (k a n : ℕ) where
   -- `check_leaf`: the front, and the body where the front is accepted.
-  module _ (front : Verdict) (told : verdictOf front ≡ frontTest file leafSignature a) where
+  module _ (front : Verdict) (code : verdictOf front ≡ frontTest file leafSignature a) where
     pub leaf-front : (q : Refusal) → front ≡ Refused q → verdictOf front ≡ leafTest file k a n
     unfolding leafTest
-    leaf-front = first-refuses front _ _ told
+    leaf-front = first-refuses front _ _ code
 
     pub leaf-body : front ≡ Accepted → (body : Verdict) → verdictOf body ≡ leafBody file k a n → verdictOf body ≡ leafTest file k a n
     unfolding leafTest
-    leaf-body e body rest = rw (first-accepts front _ _ told e) rest
+    leaf-body e body rest = rw (first-accepts front _ _ code e) rest
 
   -- `check_body`: where the records are not there.
-  pub body-short : (rows : Verdict) → verdictOf rows ≡ needs (a + recordsEnd k n) (length file) (accepted []) → (q : Refusal) → rows ≡ Refused q
-      → verdictOf rows ≡ leafBody file k a n
+  pub body-short : (records : Verdict) → verdictOf records ≡ needs (a + recordsEnd k n) (length file) (accepted []) → (q : Refusal) → records ≡ Refused q
+      → verdictOf records ≡ leafBody file k a n
   unfolding leafBody
-  body-short rows told q e = rw e (sym (bytes-missing (a + recordsEnd k n) (length file) rows told q e _))
+  body-short records code q e = rw e (sym (bytes-missing (a + recordsEnd k n) (length file) records code q e _))
 
   -- Where they are, by what follows them.
-  pub rows-fit : length file < 2 ^ 64 → a + recordsEnd k n ≤ length file → Fits w64 (a + recordsEnd k n)
-  rows-fit h there = omega arith
+  pub records-fit : length file < 2 ^ 64 → a + recordsEnd k n ≤ length file → Fits w64 (a + recordsEnd k n)
+  records-fit h there = omega arith
 
   pub body-unchecked : length file - (a + recordsEnd k n) < 4 → a + recordsEnd k n ≤ length file → accepted [] ≡ leafBody file k a n
   unfolding leafBody
@@ -49,7 +49,7 @@ module _ (file : List ℕ) (k a n : ℕ) where
 
   -- A leaf that passes has its records.
   pub leaf-there : (v : Verdict) → verdictOf v ≡ leafTest file k a n → v ≡ Accepted → a + 6 + n * k ≤ length file
-  leaf-there v told e = records.leaf-there file k a n [] (sym told ∙ ap verdictOf e)
+  leaf-there v code e = records.leaf-there file k a n [] (sym code ∙ ap verdictOf e)
 
   pub leaf-fits : (v : Verdict) → verdictOf v ≡ leafTest file k a n → v ≡ Accepted → length file < 2 ^ 64 → Fits w64 (a + 6)
-  leaf-fits v told e h = omega (arith, leaf-there v told e)
+  leaf-fits v code e h = omega (arith, leaf-there v code e)

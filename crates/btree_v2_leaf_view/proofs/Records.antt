@@ -8,9 +8,9 @@ use lib.ListN.{length}
 use mir.Syntax.{w64}
 use mir.Val.{Fits}
 use borrow.Author.Tests.{lt-ltb, le-ltb, le-leb, lt-leb}
-use Rattle.numbers.specs.Numbers.{held, part}
+use Rattle.numbers.specs.Numbers.{saturated, part}
 use Rattle.numbers.specs.Places.{stored, put, over}
-use Rattle.numbers.proofs.Copying.{part-held}
+use Rattle.numbers.proofs.Copying.{part-saturated}
 use Rattle.numbers.proofs.Lists.{put-fits, stored-is}
 use Rattle.refusal.specs.declared.Refusal.{Refusal}
 use Rattle.refusal.specs.declared.Verdict.{Verdict}
@@ -34,9 +34,9 @@ module _ (file : List ℕ) (k a n : ℕ) where
   pub records-refused : (v : Verdict) (q : Refusal) → v ≡ Refused q → [] ≡ bytesIf (verdictOf v) file k a n
   records-refused v q e = rw (e, refused-is q .2)
 
-  pub records-part : (v : Verdict) (at : ℕ) {r : List ℕ} → v ≡ Accepted → length file < 2 ^ 64 → at ≡ held (a + 6)
+  pub records-part : (v : Verdict) (at : ℕ) {r : List ℕ} → v ≡ Accepted → length file < 2 ^ 64 → at ≡ saturated (a + 6)
       → r ≡ part file at (n * k) → r ≡ bytesIf (verdictOf v) file k a n
-  records-part v at e small h r = rw (e, ← part-held file (a + 6) (n * k) small, ← h) r
+  records-part v at e small h r = rw (e, ← part-saturated file (a + 6) (n * k) small, ← h) r
 
 module _ (l : List ℕ) (k n i : ℕ) where
   pub record-none : n ≤ i → [] ≡ recordOf l k n i

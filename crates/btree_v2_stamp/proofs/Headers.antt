@@ -4,7 +4,7 @@ use mathlib.Core.List.{List, [], _∷_, _++_, append-assoc, append-nil}
 use Prim.Native.Nat.{ℕ, _+_, _-_, _^_, _≤_, _<_}
 use native.Mathlib.Omega.{arith}
 use lib.ListN.{length, length-append}
-use Rattle.numbers.specs.Numbers.{le, held}
+use Rattle.numbers.specs.Numbers.{le, saturated}
 use Rattle.numbers.specs.Places.{stored, put}
 use Rattle.numbers.proofs.Lists.{length-stored, put-fits, put-not}
 use Rattle.numbers.proofs.Numbers.{le-length}
@@ -13,8 +13,8 @@ use Rattle.format.specs.Bytes.{summed, padded, headerBytes}
 use Rattle.format.proofs.HeaderLengths.{length-header}
 use Rattle.btree_v2_stamp.specs.declared.Layout.{Layout}
 use Rattle.btree_v2_stamp.specs.Layouts.{formAt, fixedBytes}
-use Rattle.btree_v2_stamp.specs.Seals.{sealed}
-use Rattle.btree_v2_stamp.proofs.Frames.{after-front, node-sealed}
+use Rattle.btree_v2_stamp.specs.Stamped.{stamped}
+use Rattle.btree_v2_stamp.proofs.Frames.{after-front, node-stamped}
 
 -- A field right after those before it.
 next-field : (o d e f : List ℕ) (p w x : ℕ) → p + w ≤ length o → d ≡ stored o 0 f → p ≡ length f → e ≡ put d p (le w x)
@@ -56,8 +56,8 @@ header-bytes : (l : Layout) (lw depth root rootRecords n : ℕ)
 unfolding fixedBytes headerBytes
 header-bytes l lw depth root rootRecords n = simp append-assoc
 
--- `write_header`: room by the held length, no room, and field after field.
-pub header-room : (ow lw m size len : ℕ) → m ≡ held (22 + ow) → size ≡ held (m + lw) → len < 2 ^ 63 → size ≤ len → 22 + ow + lw ≤ len
+-- `write_header`: room by the saturated length, no room, and field after field.
+pub header-room : (ow lw m size len : ℕ) → m ≡ saturated (22 + ow) → size ≡ saturated (m + lw) → len < 2 ^ 63 → size ≤ len → 22 + ow + lw ≤ len
 header-room ow lw m size len first both s h = omega arith
 
 module _ (l : Layout) (lw depth root n total : ℕ) (o : List ℕ) where
@@ -67,12 +67,12 @@ module _ (l : Layout) (lw depth root n total : ℕ) (o : List ℕ) where
   abbrev bytes : List ℕ
   bytes = headerBytes (formAt l) lw depth root n total
 
-  pub header-short : (m size : ℕ) → m ≡ held (22 + ow) → size ≡ held (m + lw) → length o < size → o ≡ put o 0 bytes
+  pub header-short : (m size : ℕ) → m ≡ saturated (22 + ow) → size ≡ saturated (m + lw) → length o < size → o ≡ put o 0 bytes
   header-short m size first both h = sym (put-not o 0 bytes (rw length-header (omega arith)))
 
   pub header-put : (a b c d z : List ℕ) → 22 + ow + lw ≤ length o → a ≡ stored o 0 (fixedBytes l depth) → b ≡ put a 16 (le ow root)
       → c ≡ put b (16 + ow) (le 2 n) → d ≡ put c (16 + ow + 2) (le lw total)
-      → z ≡ sealed d (16 + ow + 2 + lw) (16 + ow + 2 + lw + 4) → z ≡ put o 0 bytes
+      → z ≡ stamped d (16 + ow + 2 + lw) (16 + ow + 2 + lw + 4) → z ≡ put o 0 bytes
   header-put a b c d z h ha hb hc hd hz =
       let f = fixedBytes l depth ++ le ow root in
       let lf : length f ≡ 16 + ow = rw (length-append, length-fixed, le-length) in
@@ -82,5 +82,5 @@ module _ (l : Layout) (lw depth root n total : ℕ) (o : List ℕ) where
       let x = next-field o a b (fixedBytes l depth) 16 ow root (omega arith) ha (sym (length-fixed l depth)) hb in
       let y = next-field o b c f (16 + ow) 2 n (omega arith) x (sym lf) hc in
       let w = next-field o c d (f ++ le 2 n) (16 + ow + 2) lw total (omega arith) y (sym lg) hd in
-      let s = node-sealed o d z whole (16 + ow + 2 + lw) (16 + ow + 2 + lw + 4) w (sym end) (omega arith) (omega arith) hz in
+      let s = node-stamped o d z whole (16 + ow + 2 + lw) (16 + ow + 2 + lw + 4) w (sym end) (omega arith) (omega arith) hz in
       rw (put-fits o 0 bytes (rw length-header (omega arith)), ← header-bytes, ← padded-exact whole (16 + ow + 2 + lw + 4) (rw end)) s

@@ -8,7 +8,7 @@ ghost use lib.ListN.{length, replicate};
 ghost use Rattle.numbers.specs.Places.{stored, put};
 ghost use Rattle.format.specs.Bytes.{headerBytes};
 ghost use Rattle.btree_v2_stamp.specs.Layouts.{formAt, fixedBytes};
-ghost use Rattle.btree_v2_stamp.specs.Seals.{sealed};
+ghost use Rattle.btree_v2_stamp.specs.Stamped.{stamped};
 
 // When a node is split and merged, in percent of its capacity; written into the header alone.
 const SPLIT_PERCENT: u64 = 100;
@@ -44,8 +44,8 @@ pub fn put_front(node: &mut [u8], third: u8, fourth: u8, tree_type: u8)
     if node.len() < 6 {
         return;
     }
-    node[0] = 66;
-    node[1] = 84;
+    node[0] = b'B';
+    node[1] = b'T';
     node[2] = third;
     node[3] = fourth;
     node[4] = 0;
@@ -53,8 +53,8 @@ pub fn put_front(node: &mut [u8], third: u8, fourth: u8, tree_type: u8)
 }
 
 // Puts the checksum of the first `used` bytes after them, and zeros to the node size, where that much is there; else changes nothing.
-pub fn seal(node: &mut [u8], used: usize, node_size: usize)
-    ensures { λ _. ⌜ now (node .exit) ≡ sealed (now (node .entry)) used «node_size» ⌝ }
+pub fn stamp(node: &mut [u8], used: usize, node_size: usize)
+    ensures { λ _. ⌜ now (node .exit) ≡ stamped (now (node .entry)) used «node_size» ⌝ }
 {
     if node.len() < node_size {
         return;
@@ -75,7 +75,7 @@ fn put_fixed(header: &mut [u8], layout: Layout, depth: u64)
     requires { ⌜ 16 ≤ length (now header) ⌝ }
     ensures { λ _. ⌜ now (header .exit) ≡ stored (now (header .entry)) 0 (fixedBytes layout depth) ⌝ }
 {
-    put_front(header, 72, 68, layout.tree_type);
+    put_front(header, b'H', b'D', layout.tree_type);
     numbers::write_le(header, 6, layout.node_size as u64, 4);
     numbers::write_le(header, 10, layout.record_size as u64, 2);
     numbers::write_le(header, 12, depth, 2);
@@ -108,5 +108,5 @@ pub fn write_header(
     numbers::write_le(header, 16, address, offset_size);
     numbers::write_le(header, records_at, records, 2);
     numbers::write_le(header, total_at, total, length_size);
-    seal(header, used, used + 4);
+    stamp(header, used, used + 4);
 }

@@ -120,7 +120,7 @@ module _ (r : own.Request) {p : BTreeV2Plan} {info : NodeInfo} {recs hdr img : L
         few = omega (arith, known .0 .pass);
         thick = λ deeper. rw is (known .0 .thick (some-records deeper));
         fits = rw (form-is, tree-is) all-fit;
-        rows = rw is (omega (arith, ok .records));
+        inList = rw is (omega (arith, ok .records));
         room = rw (nodes-at, is) (omega (arith, room .image));
         short = rw (nodes-at, is) (omega (arith, ends));
       })

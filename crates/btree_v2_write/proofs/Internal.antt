@@ -21,10 +21,10 @@ use Rattle.numbers.proofs.Numbers.{le-length, lt-or-le}
 use Rattle.btree_v2_stamp.specs.declared.Layout.{Layout}
 use Rattle.format.specs.Bytes.{padded}
 use Rattle.btree_v2_write.specs.declared.node.Child.{Child}
-use Rattle.btree_v2_write.specs.declared.node.Inner.{Inner}
-use Rattle.btree_v2_write.specs.Shares.{twoSizes, withOne, rowsAfter, pointerSize, pointerTo, pointersTo, nodesOfAll, InnerFits, innerShares, innerChildren, innerBytes}
-use Rattle.btree_v2_stamp.specs.Seals.{sealed}
-use Rattle.btree_v2_stamp.proofs.Frames.{after-front, node-sealed}
+use Rattle.btree_v2_write.specs.declared.node.InternalNode.{InternalNode}
+use Rattle.btree_v2_write.specs.Shares.{twoSizes, withOne, recordsAfter, pointerSize, pointerTo, pointersTo, nodesOfAll, InternalNodeFits, childShares, childrenOf, internalNodeBytes}
+use Rattle.btree_v2_stamp.specs.Stamped.{stamped}
+use Rattle.btree_v2_stamp.proofs.Frames.{after-front, node-stamped}
 
 pub pick-lt : {A : Type 0} (i e : ℕ) (x y : A) → i < e → x ≡ pick (ltb i e) x y
 pick-lt i e x y h = rw (lt-ltb i e h)
@@ -62,21 +62,21 @@ pub stored-turn : (o : List ℕ) (p q : ℕ) (x rest : List ℕ) → p ≤ lengt
     → stored (stored o p x) q rest ≡ stored o p (x ++ rest)
 stored-turn o p q x rest h e = rw e (stored-append o p x h rest)
 
--- `put_own_rows`
+-- `put_own_records`
 module _ (o recs : List ℕ) (rs kept base extra r : ℕ) where
-  abbrev rowsFrom : ℕ → List ℕ
-  rowsFrom i = from kept extra (base + 1) base i
+  abbrev rangeFrom : ℕ → List ℕ
+  rangeFrom i = from kept extra (base + 1) base i
 
   -- Before child i: the place, the record reached, and what is left.
-  pub record RowsLeft (d : List ℕ) (at row i : ℕ) : Type 0 where
+  pub record RecordsLeft (d : List ℕ) (at nextRecord i : ℕ) : Type 0 where
     pub within : i ≤ kept
     pub place : at ≡ 6 + i * rs
-    pub reached : row + withOne (rowsFrom i) ≡ r + withOne (twoSizes kept extra (base + 1) base)
+    pub reached : nextRecord + withOne (rangeFrom i) ≡ r + withOne (twoSizes kept extra (base + 1) base)
     pub long : length d ≡ length o
-    pub left : stored d at (rowsAfter rs recs (rowsFrom i) row) ≡ stored o 6 (rowsAfter rs recs (twoSizes kept extra (base + 1) base) r)
+    pub left : stored d at (recordsAfter rs recs (rangeFrom i) nextRecord) ≡ stored o 6 (recordsAfter rs recs (twoSizes kept extra (base + 1) base) r)
 
-  pub rows-start : RowsLeft o 6 r 0
-  rows-start =
+  pub records-start : RecordsLeft o 6 r 0
+  records-start =
       record {
         within = zero≤;
         place = rw (zero-mul);
@@ -86,63 +86,63 @@ module _ (o recs : List ℕ) (rs kept base extra r : ℕ) where
       }
 
   module _ (node : 6 + kept * rs ≤ length o) (room : (r + withOne (twoSizes kept extra (base + 1) base)) * rs ≤ length recs) where
-    module _ (d : List ℕ) (at row i m : ℕ) (inv : RowsLeft d at row i) (h : i < kept) (share : m ≡ pick (ltb i extra) (base + 1) base) where
-      row-left : rowsFrom i ≡ m ∷ rowsFrom (i + 1)
-      row-left = rw share (from-step kept extra (base + 1) base i h)
+    module _ (d : List ℕ) (at nextRecord i m : ℕ) (inv : RecordsLeft d at nextRecord i) (h : i < kept) (share : m ≡ pick (ltb i extra) (base + 1) base) where
+      record-left : rangeFrom i ≡ m ∷ rangeFrom (i + 1)
+      record-left = rw share (from-step kept extra (base + 1) base i h)
 
-      reached-next : row + m + 1 + withOne (rowsFrom (i + 1)) ≡ r + withOne (twoSizes kept extra (base + 1) base)
+      reached-next : nextRecord + m + 1 + withOne (rangeFrom (i + 1)) ≡ r + withOne (twoSizes kept extra (base + 1) base)
       unfolding withOne
-      reached-next = let e = rw row-left at (inv .reached) in omega (arith, e)
+      reached-next = let e = rw record-left at (inv .reached) in omega (arith, e)
 
       -- The row is in the list, and its place in the node.
-      pub row-there : (row + m) * rs + rs ≤ length recs
-      row-there =
+      pub record-there : (nextRecord + m) * rs + rs ≤ length recs
+      record-there =
           let e = reached-next in
-          let s : suc (row + m) ≤ r + withOne (twoSizes kept extra (base + 1) base) = omega arith in
+          let s : suc (nextRecord + m) ≤ r + withOne (twoSizes kept extra (base + 1) base) = omega arith in
           le-trans (rw suc-mul at (mul-le-mul-right rs s)) room
 
-      pub row-place : at + rs ≤ length d
-      row-place =
+      pub record-place : at + rs ≤ length d
+      record-place =
           let s : suc i ≤ kept = h in
           let t = rw suc-mul at (mul-le-mul-right rs s) in
           omega (arith, inv .place, inv .long)
 
       -- The numbers of a turn fit.
       module _ (pos : 0 < rs) (short : length recs < 2 ^ 64) where
-        pub row-next-fits : Fits w64 (row + m + 1)
-        row-next-fits =
+        pub record-next-fits : Fits w64 (nextRecord + m + 1)
+        record-next-fits =
             let e = reached-next in
             let all = r + withOne (twoSizes kept extra (base + 1) base) in
             let t : all ≤ length recs = le-trans (le-mul-of-pos-right all pos) room in
             omega (arith, e, t)
 
-        pub row-fits : Fits w64 (row + m)
-        row-fits = omega (arith, row-next-fits)
+        pub record-fits : Fits w64 (nextRecord + m)
+        record-fits = omega (arith, record-next-fits)
 
-        pub row-offset-fits : Fits w64 ((row + m) * rs)
-        row-offset-fits = omega (arith, row-there)
+        pub record-offset-fits : Fits w64 ((nextRecord + m) * rs)
+        record-offset-fits = omega (arith, record-there)
 
       pub place-fits : length o < 2 ^ 64 → Fits w64 (at + rs)
-      place-fits short = omega (arith, row-place, inv .long)
+      place-fits short = omega (arith, record-place, inv .long)
 
-      pub rows-turn : (d′ : List ℕ) → d′ ≡ stored d at (part recs ((row + m) * rs) rs) → RowsLeft d′ (at + rs) (row + m + 1) (i + 1)
-      unfolding rowsAfter
-      rows-turn d′ e =
-          let many : length (part recs ((row + m) * rs) rs) ≡ rs = length-part recs ((row + m) * rs) rs row-there in
+      pub records-turn : (d′ : List ℕ) → d′ ≡ stored d at (part recs ((nextRecord + m) * rs) rs) → RecordsLeft d′ (at + rs) (nextRecord + m + 1) (i + 1)
+      unfolding recordsAfter
+      records-turn d′ e =
+          let many : length (part recs ((nextRecord + m) * rs) rs) ≡ rs = length-part recs ((nextRecord + m) * rs) rs record-there in
           record {
             within = omega arith;
             place = rw (add-one, suc-mul) (omega (arith, inv .place));
             reached = reached-next;
-            long = ap length e ∙ length-stored d at (part recs ((row + m) * rs) rs) (rw many row-place) ∙ inv .long;
+            long = ap length e ∙ length-stored d at (part recs ((nextRecord + m) * rs) rs) (rw many record-place) ∙ inv .long;
             left =
-                rw (e, stored-turn d at (at + rs) (part recs ((row + m) * rs) rs) (rowsAfter rs recs (rowsFrom (i + 1)) (row + m + 1)) (omega (arith, row-place)) (rw many))
-                (rw row-left at (inv .left));
+                rw (e, stored-turn d at (at + rs) (part recs ((nextRecord + m) * rs) rs) (recordsAfter rs recs (rangeFrom (i + 1)) (nextRecord + m + 1)) (omega (arith, record-place)) (rw many))
+                (rw record-left at (inv .left));
           }
 
-  pub rows-end : (d : List ℕ) (at row i : ℕ) → RowsLeft d at row i → kept ≤ i
-      → (d ≡ stored o 6 (rowsAfter rs recs (twoSizes kept extra (base + 1) base) r)) × (at ≡ 6 + kept * rs)
-  unfolding rowsAfter
-  rows-end d at row i inv h =
+  pub records-end : (d : List ℕ) (at nextRecord i : ℕ) → RecordsLeft d at nextRecord i → kept ≤ i
+      → (d ≡ stored o 6 (recordsAfter rs recs (twoSizes kept extra (base + 1) base) r)) × (at ≡ 6 + kept * rs)
+  unfolding recordsAfter
+  records-end d at nextRecord i inv h =
       let e : i ≡ kept = omega (arith, inv .within) in
       (sym (stored-nil d at) ∙ (rw (from-end kept extra (base + 1) base i h) at (inv .left)), rw (← e) (inv .place))
 
@@ -248,14 +248,14 @@ length-two zero e x y = refl
 length-two (suc k) zero x y = ap suc (length-two k zero x y)
 length-two (suc k) (suc e) x y = ap suc (length-two k e x y)
 
-length-rows : (rs : ℕ) (recs ms : List ℕ) (r : ℕ) → (r + withOne ms) * rs ≤ length recs → length (rowsAfter rs recs ms r) ≡ length ms * rs
-unfolding rowsAfter withOne
-length-rows rs recs [] r h = sym (zero-mul rs)
-length-rows rs recs (m ∷ ms) r h =
+length-range : (rs : ℕ) (recs ms : List ℕ) (r : ℕ) → (r + withOne ms) * rs ≤ length recs → length (recordsAfter rs recs ms r) ≡ length ms * rs
+unfolding recordsAfter withOne
+length-range rs recs [] r h = sym (zero-mul rs)
+length-range rs recs (m ∷ ms) r h =
     let next : (r + m + 1 + withOne ms) * rs ≤ length recs = rw (add-assoc (r + m) 1, add-assoc r m) (rw (add-assoc m 1) at h) in
     let less : suc (r + m) ≤ r + m + 1 + withOne ms = omega arith in
     let here : (r + m) * rs + rs ≤ length recs = le-trans (rw suc-mul at (mul-le-mul-right rs less)) next in
-    rw (length-append, length-part recs ((r + m) * rs) rs here, length-rows rs recs ms (r + m + 1) next, suc-mul) (omega arith)
+    rw (length-append, length-part recs ((r + m) * rs) rs here, length-range rs recs ms (r + m + 1) next, suc-mul) (omega arith)
 
 length-pointers : (l : Layout) (t : ℕ) (xs : List Child) (j : ℕ) → length (pointersTo l t xs j) ≡ length xs * pointerSize l t
 unfolding pointersTo
@@ -264,24 +264,24 @@ length-pointers l t (x ∷ xs) j =
     rw (length-append, pointer-length, length-pointers l t xs (j + x .nodes), suc-mul) (omega arith)
 
 -- `fill_internal`: front, own records, pointers, checksum, zeros.
-pub inner-filled : (l : Layout) (o d e f z recs : List ℕ) (x : Inner) (at end : ℕ) → InnerFits l (length recs) x → l .«node_size» ≤ length o
+pub internal-filled : (l : Layout) (o d e f z recs : List ℕ) (x : InternalNode) (at end : ℕ) → InternalNodeFits l (length recs) x → l .«node_size» ≤ length o
     → d ≡ put o 0 (66 ∷ 84 ∷ 73 ∷ 78 ∷ 0 ∷ l .«tree_type» ∷ [])
-    → e ≡ stored d 6 (rowsAfter (l .«record_size») recs (innerShares x) (x .«first_row»)) → at ≡ 6 + x .kept * l .«record_size»
-    → f ≡ stored e at (pointersTo l (x .«total_size») (innerChildren x) (x .«first_node»))
+    → e ≡ stored d 6 (recordsAfter (l .«record_size») recs (childShares x) (x .«first_record»)) → at ≡ 6 + x .kept * l .«record_size»
+    → f ≡ stored e at (pointersTo l (x .«total_size») (childrenOf x) (x .«first_node»))
     → end ≡ at + (x .kept + 1) * pointerSize l (x .«total_size»)
-    → z ≡ sealed f end (l .«node_size») → z ≡ stored o 0 (padded (l .«node_size») (innerBytes l recs x))
-unfolding innerBytes
-inner-filled l o d e f z recs x at end fits h hd he hat hf hend hz =
+    → z ≡ stamped f end (l .«node_size») → z ≡ stored o 0 (padded (l .«node_size») (internalNodeBytes l recs x))
+unfolding internalNodeBytes
+internal-filled l o d e f z recs x at end fits h hd he hat hf hend hz =
     let front : List ℕ = 66 ∷ 84 ∷ 73 ∷ 78 ∷ 0 ∷ l .«tree_type» ∷ [] in
-    let rows = rowsAfter (l .«record_size») recs (innerShares x) (x .«first_row») in
-    let ptrs = pointersTo l (x .«total_size») (innerChildren x) (x .«first_node») in
-    let long : length rows ≡ x .kept * l .«record_size» =
-    rw (length-rows (l .«record_size») recs (innerShares x) (x .«first_row») (fits .rows), length-two) in
+    let records = recordsAfter (l .«record_size») recs (childShares x) (x .«first_record») in
+    let ptrs = pointersTo l (x .«total_size») (childrenOf x) (x .«first_node») in
+    let long : length records ≡ x .kept * l .«record_size» =
+    rw (length-range (l .«record_size») recs (childShares x) (x .«first_record») (fits .inList), length-two) in
     let many : length ptrs ≡ (x .kept + 1) * pointerSize l (x .«total_size») =
-    rw (length-pointers l (x .«total_size») (innerChildren x) (x .«first_node»), length-two) in
-    let first = after-front o d e front rows 6 refl (hd ∙ put-fits o 0 front (omega (arith, fits .bytes))) he in
-    let both = after-front o e f (front ++ rows) ptrs at (rw (length-append front rows, long) hat) first hf in
-    node-sealed o f z (front ++ (rows ++ ptrs)) end (l .«node_size»)
+    rw (length-pointers l (x .«total_size») (childrenOf x) (x .«first_node»), length-two) in
+    let first = after-front o d e front records 6 refl (hd ∙ put-fits o 0 front (omega (arith, fits .bytes))) he in
+    let both = after-front o e f (front ++ records) ptrs at (rw (length-append front records, long) hat) first hf in
+    node-stamped o f z (front ++ (records ++ ptrs)) end (l .«node_size»)
     (rw append-assoc at both)
-    (rw (length-append front (rows ++ ptrs), length-append, long, many) (omega (arith, hat, hend)))
+    (rw (length-append front (records ++ ptrs), length-append, long, many) (omega (arith, hat, hend)))
     (omega (arith, hat, hend, fits .bytes)) h hz

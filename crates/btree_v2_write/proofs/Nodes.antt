@@ -13,11 +13,11 @@ use Rattle.numbers.specs.Numbers.{pick, le, part}
 use Rattle.numbers.specs.Places.{stored, put}
 use Rattle.numbers.proofs.Lists.{stored-drop, length-part, put-fits}
 use Rattle.numbers.proofs.Numbers.{le-length}
-use Rattle.format.specs.Bytes.{padded, rows, leafBytes}
+use Rattle.format.specs.Bytes.{padded, recordRange, leafBytes}
 use Rattle.btree_v2_stamp.specs.declared.Layout.{Layout}
 use Rattle.btree_v2_stamp.specs.Layouts.{formAt}
-use Rattle.btree_v2_stamp.specs.Seals.{sealed}
-use Rattle.btree_v2_stamp.proofs.Frames.{after-front, node-sealed}
+use Rattle.btree_v2_stamp.specs.Stamped.{stamped}
+use Rattle.btree_v2_stamp.proofs.Frames.{after-front, node-stamped}
 
 -- `put_number`: a field that fits.
 module _ (o : List ℕ) (at w : ℕ) (h : at + w ≤ length o) where
@@ -30,15 +30,15 @@ module _ (o : List ℕ) (at w : ℕ) (h : at + w ≤ length o) where
 -- `fill_leaf`: front, records, checksum, zeros.
 pub leaf-filled : (l : Layout) (o d e z records : List ℕ) (n r : ℕ) → l .«node_size» ≤ length o → 10 + n * l .«record_size» ≤ l .«node_size»
     → (r + n) * l .«record_size» ≤ length records → d ≡ put o 0 (66 ∷ 84 ∷ 76 ∷ 70 ∷ 0 ∷ l .«tree_type» ∷ [])
-    → e ≡ stored d 6 (part records (r * l .«record_size») (n * l .«record_size»)) → z ≡ sealed e (6 + n * l .«record_size») (l .«node_size»)
+    → e ≡ stored d 6 (part records (r * l .«record_size») (n * l .«record_size»)) → z ≡ stamped e (6 + n * l .«record_size») (l .«node_size»)
     → z ≡ stored o 0 (padded (l .«node_size») (leafBytes (formAt l) (l .start) records n r))
-unfolding leafBytes rows
+unfolding leafBytes recordRange
 leaf-filled l o d e z records n r h k m hd he hz =
     let t = part records (r * l .«record_size») (n * l .«record_size») in
     let f : List ℕ = 66 ∷ 84 ∷ 76 ∷ 70 ∷ 0 ∷ l .«tree_type» ∷ [] in
     let many : length t ≡ n * l .«record_size» = length-part records (r * l .«record_size») (n * l .«record_size») (rw add-mul at m) in
     let both = after-front o d e f t 6 refl (hd ∙ put-fits o 0 f (omega arith)) he in
-    node-sealed o e z (f ++ t) (6 + n * l .«record_size») (l .«node_size») both (rw (length-append f t, many)) (omega arith) h hz
+    node-stamped o e z (f ++ t) (6 + n * l .«record_size») (l .«node_size») both (rw (length-append f t, many)) (omega arith) h hz
 
 -- A node filled from the front of what follows its place.
 pub node-placed : (o d b : List ℕ) (a : ℕ) → a ≤ length o → d ≡ stored (part o a (length o - a)) 0 b → putMid a (length o - a) o d ≡ stored o a b

@@ -14,16 +14,16 @@ use Rattle.numbers.specs.Numbers.{pick}
 use Rattle.numbers.proofs.Numbers.{lt-or-le}
 use Rattle.plan.specs.Tree.{count, size, below, nodes}
 use Rattle.plan.specs.Planned.{taken, children, kidsOf, planTree, thin}
-use Rattle.plan.proofs.Dealing.{share, extra, extra-lt, children-is, length-children, children-some, sumOf-children, sum-children, taken-le, all-children-less, all-children-more}
+use Rattle.plan.proofs.Distributing.{share, extra, extra-lt, children-is, length-children, children-some, sumOf-children, sum-children, taken-le, all-children-less, all-children-more}
 use Rattle.plan.proofs.Lists.{sumOf, AllOf, all-of-map}
 use Rattle.plan.proofs.Plans.{plan-size, plan-nodes}
 use Rattle.plan.proofs.Thin.{thin-children, thin-pos}
-use Rattle.format.specs.Bytes.{rows, address, pointerBytes, pointer, pointers, ownRows, internalBytes, padded, kidsImage, image}
+use Rattle.format.specs.Bytes.{recordRange, address, pointerBytes, pointer, pointers, ownRecords, internalBytes, padded, kidsImage, image}
 use Rattle.btree_v2_stamp.specs.declared.Layout.{Layout}
 use Rattle.btree_v2_write.specs.declared.node.Child.{Child}
-use Rattle.btree_v2_write.specs.declared.node.Inner.{Inner}
+use Rattle.btree_v2_write.specs.declared.node.InternalNode.{InternalNode}
 use Rattle.btree_v2_stamp.specs.Layouts.{formAt}
-use Rattle.btree_v2_write.specs.Shares.{twoSizes, withOne, rowsAfter, pointerTo, pointersTo, nodesOfAll, innerBytes, innerShares, innerChildren}
+use Rattle.btree_v2_write.specs.Shares.{twoSizes, withOne, recordsAfter, pointerTo, pointersTo, nodesOfAll, internalNodeBytes, childShares, childrenOf}
 use Rattle.btree_v2_write.specs.Subtrees.{capacities, subtree, subtreeNodes, subtreeImage}
 
 -- The two sizes as runs.
@@ -132,12 +132,12 @@ module _ (l : Layout) (recs : List ℕ) (d : ℕ) where
   images-kids (m ∷ k ∷ ms) h s j r =
       rw (s .0, images-kids (k ∷ ms) (omega arith) (s .1) (j + nodes d (subtree l d m)) (r + m + 1))
 
-  rows-kids : (ms : List ℕ) → 0 < length ms → Sized ms → (r : ℕ)
-      → ownRows (formAt l) (l .start) recs d (kidsOf (subtree l d) ms) r ≡ rowsAfter (l .«record_size») recs (front ms) r
-  unfolding kidsOf ownRows rows rowsAfter front
-  rows-kids [] h s r = absurd (not-suc-le-zero h)
-  rows-kids (m ∷ []) h s r = refl
-  rows-kids (m ∷ k ∷ ms) h s r = rw (s .0, one-mul, rows-kids (k ∷ ms) (omega arith) (s .1) (r + m + 1))
+  records-kids : (ms : List ℕ) → 0 < length ms → Sized ms → (r : ℕ)
+      → ownRecords (formAt l) (l .start) recs d (kidsOf (subtree l d) ms) r ≡ recordsAfter (l .«record_size») recs (front ms) r
+  unfolding kidsOf ownRecords recordRange recordsAfter front
+  records-kids [] h s r = absurd (not-suc-le-zero h)
+  records-kids (m ∷ []) h s r = refl
+  records-kids (m ∷ k ∷ ms) h s r = rw (s .0, one-mul, records-kids (k ∷ ms) (omega arith) (s .1) (r + m + 1))
 
   module _ (t : ℕ) (e : t ≡ formAt l .tw d) where
     pointer-at : (m j : ℕ) → pointer (formAt l) (l .start) recs d (subtree l d m) j ≡ pointerTo l t (childAt l d m) j
@@ -163,7 +163,7 @@ module _ (l : Layout) (recs : List ℕ) (d n : ℕ) (thick : thin (capacities l)
   nodes-node = plan-nodes (capacities l) d n ∙ rw (sumOf-children (λ m. nodes d (subtree l d m)) cap n)
 
   -- The numbers of the node as the code has them.
-  pub record Numbers (x : Inner) : Type 0 where
+  pub record Numbers (x : InternalNode) : Type 0 where
     pub kept : x .kept ≡ taken cap n
     pub base : x .base ≡ share cap n
     pub extra : x .extra ≡ extra cap n
@@ -171,33 +171,33 @@ module _ (l : Layout) (recs : List ℕ) (d n : ℕ) (thick : thin (capacities l)
     pub small : x .small ≡ childAt l d (share cap n)
     pub total : x .«total_size» ≡ formAt l .tw d
 
-  module _ (x : Inner) (is : Numbers x) where
-    shares-are : innerShares x ≡ front (children cap n)
+  module _ (x : InternalNode) (is : Numbers x) where
+    shares-are : childShares x ≡ front (children cap n)
     shares-are =
         rw (is .kept, is .extra, is .base, ← two-children, add-one, front-two)
 
-    children-are : innerChildren x ≡ childrenAt l d (children cap n)
+    children-are : childrenOf x ≡ childrenAt l d (children cap n)
     children-are =
         two-any (x .kept + 1) (x .extra) (x .large) (childAt l d (share cap n + 1)) (x .small) (is .large)
         ∙ rw (is .small, is .kept, is .extra, ← children-two l d, two-children)
 
-    inner-is : innerBytes l recs x ≡ internalBytes (formAt l) (l .start) recs d (kidsOf (subtree l d) (children cap n)) (x .«first_node») (x .«first_row»)
-    unfolding innerBytes internalBytes
-    inner-is =
-        let own = rows-kids l recs d (children cap n) (children-some cap n) sized (x .«first_row») in
+    internal-is : internalNodeBytes l recs x ≡ internalBytes (formAt l) (l .start) recs d (kidsOf (subtree l d) (children cap n)) (x .«first_node») (x .«first_record»)
+    unfolding internalNodeBytes internalBytes
+    internal-is =
+        let own = records-kids l recs d (children cap n) (children-some cap n) sized (x .«first_record») in
         let below = pointers-kids l recs d (x .«total_size») (is .total) (children cap n) (children-some cap n) (x .«first_node») in
         rw (shares-are, children-are, own, below)
 
     -- The subtree's image: its children's, and its root's.
-    pub image-is : subtreeImage l recs (suc d) n (x .«first_node») (x .«first_row»)
-        ≡ images l recs d (children cap n) (x .«first_node») (x .«first_row») ++ padded (l .«node_size») (innerBytes l recs x)
+    pub image-is : subtreeImage l recs (suc d) n (x .«first_node») (x .«first_record»)
+        ≡ images l recs d (children cap n) (x .«first_node») (x .«first_record») ++ padded (l .«node_size») (internalNodeBytes l recs x)
     unfolding subtreeImage image planTree
     image-is =
-        rw (inner-is, images-kids l recs d (children cap n) (children-some cap n) sized (x .«first_node») (x .«first_row»))
+        rw (internal-is, images-kids l recs d (children cap n) (children-some cap n) sized (x .«first_node») (x .«first_record»))
 
-    pub nodes-are : nodesOfAll (innerChildren x) ≡ sumOf (subtreeNodes l d) (children cap n)
+    pub nodes-are : nodesOfAll (childrenOf x) ≡ sumOf (subtreeNodes l d) (children cap n)
     nodes-are = rw (children-are, nodes-all l d (children cap n))
 
-    pub rows-within : withOne (innerShares x) ≤ n
-    rows-within =
+    pub records-within : withOne (childShares x) ≤ n
+    records-within =
         rw shares-are (omega (arith, front-less (children cap n) (children-some cap n), one-each cap n (thin-pos (capacities l) (suc d) n thick)))

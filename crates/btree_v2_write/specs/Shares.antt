@@ -4,7 +4,7 @@ use mathlib.Core.List.{List, [], _∷_, _++_}
 use Rattle.numbers.specs.Numbers.{le, part}
 use Rattle.format.specs.Bytes.{internalSignature}
 use Rattle.btree_v2_write.specs.declared.node.Child.{Child}
-use Rattle.btree_v2_write.specs.declared.node.Inner.{Inner}
+use Rattle.btree_v2_write.specs.declared.node.InternalNode.{InternalNode}
 use Rattle.btree_v2_stamp.specs.declared.Layout.{Layout}
 
 -- The first k of children of which the first `extra` are `large` and the others `small`.
@@ -19,9 +19,9 @@ withOne [] = 0
 withOne (m ∷ ms) = m + 1 + withOne ms
 
 -- The records that follow each of these children; the first record below is record r.
-unfoldable pub rowsAfter : ℕ → List ℕ → List ℕ → ℕ → List ℕ
-rowsAfter rs recs [] r = []
-rowsAfter rs recs (m ∷ ms) r = part recs ((r + m) * rs) rs ++ rowsAfter rs recs ms (r + m + 1)
+unfoldable pub recordsAfter : ℕ → List ℕ → List ℕ → ℕ → List ℕ
+recordsAfter rs recs [] r = []
+recordsAfter rs recs (m ∷ ms) r = part recs ((r + m) * rs) rs ++ recordsAfter rs recs ms (r + m + 1)
 
 -- A pointer's width where totals have t bytes, and its bytes; the child's first node is node j.
 abbrev pub pointerSize : Layout → ℕ → ℕ
@@ -41,26 +41,26 @@ nodesOfAll [] = 0
 nodesOfAll (x ∷ xs) = x .nodes + nodesOfAll xs
 
 -- The children's numbers of records, but for the last child's; and all children.
-abbrev pub innerShares : Inner → List ℕ
-innerShares x = twoSizes (x .kept) (x .extra) (x .base + 1) (x .base)
+abbrev pub childShares : InternalNode → List ℕ
+childShares x = twoSizes (x .kept) (x .extra) (x .base + 1) (x .base)
 
-abbrev pub innerChildren : Inner → List Child
-innerChildren x = twoSizes (x .kept + 1) (x .extra) (x .large) (x .small)
+abbrev pub childrenOf : InternalNode → List Child
+childrenOf x = twoSizes (x .kept + 1) (x .extra) (x .large) (x .small)
 
 -- An internal node's bytes before its checksum.
-unfoldable pub innerBytes : Layout → List ℕ → Inner → List ℕ
-innerBytes l recs x =
+unfoldable pub internalNodeBytes : Layout → List ℕ → InternalNode → List ℕ
+internalNodeBytes l recs x =
     internalSignature
     ++ (0
     ∷ l .«tree_type»
-    ∷ (rowsAfter (l .«record_size») recs (innerShares x) (x .«first_row»)
-    ++ pointersTo l (x .«total_size») (innerChildren x) (x .«first_node»)))
+    ∷ (recordsAfter (l .«record_size») recs (childShares x) (x .«first_record»)
+    ++ pointersTo l (x .«total_size») (childrenOf x) (x .«first_node»)))
 
 -- The numbers of an internal node that can be filled from a record list of this length.
-pub record InnerFits (l : Layout) (records : ℕ) (x : Inner) : Type 0 where
+pub record InternalNodeFits (l : Layout) (records : ℕ) (x : InternalNode) : Type 0 where
   pub size : 0 < l .«record_size»
   pub few : (x .kept < 2 ^ 32) × (x .base < 2 ^ 32)
   pub bytes : 10 + (x .kept * l .«record_size» + (x .kept + 1) * pointerSize l (x .«total_size»)) ≤ l .«node_size»
-  pub rows : (x .«first_row» + withOne (innerShares x)) * l .«record_size» ≤ records
+  pub inList : (x .«first_record» + withOne (childShares x)) * l .«record_size» ≤ records
   pub some : (0 < x .large .nodes) × (0 < x .small .nodes)
-  pub short : l .start + (x .«first_node» + nodesOfAll (innerChildren x)) * l .«node_size» < 2 ^ 64
+  pub short : l .start + (x .«first_node» + nodesOfAll (childrenOf x)) * l .«node_size» < 2 ^ 64

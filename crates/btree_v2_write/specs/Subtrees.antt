@@ -30,15 +30,15 @@ subtreeImage l recs d n j r = image (formAt l) (l .start) recs d (subtree l d n)
 
 -- A subtree that can be written: the table's entries are those of its levels, its records are among 2^24, it is a leaf or not too thin, its
 -- nodes fit, its records are in the list, its nodes in the image, and its addresses below 2^64.
-pub record Ready (l : Layout) (most wide : List ℕ) (records image d n j r : ℕ) : Type 0 where
+pub record Ready (l : Layout) (most totals : List ℕ) (records image d n j r : ℕ) : Type 0 where
   pub low : d ≤ 32
   pub size : 0 < l .«record_size»
   pub caps : (u : ℕ) → u < d → getD most u 0 ≡ capacities l u
-  pub widths : (u : ℕ) → u < d → getD wide u 0 ≡ totalWidth (l .«node_size») (l .«record_size») (l .«offset_size») u
+  pub widths : (u : ℕ) → u < d → getD totals u 0 ≡ totalWidth (l .«node_size») (l .«record_size») (l .«offset_size») u
   pub few : r + n < 2 ^ 24
   pub thick : 1 ≤ d → thin (capacities l) d n ≡ false
   pub fits : Everywhere (Fit (formAt l)) d (subtree l d n)
-  pub rows : (r + n) * l .«record_size» ≤ records
+  pub inList : (r + n) * l .«record_size» ≤ records
   pub room : (j + subtreeNodes l d n) * l .«node_size» ≤ image
   pub short : l .start + (j + subtreeNodes l d n) * l .«node_size» < 2 ^ 64
 

@@ -42,10 +42,10 @@ fn write_planned(
 {
     let layout = layout_of(request, info.max_nrec_size);
     let most = info.cum_max_nrec;
-    let wide = info.cum_max_nrec_size;
+    let total_sizes = info.cum_max_nrec_size;
     let depth = plan.depth as usize;
     let n = request.record_count as usize;
-    let root = subtree::write_image(image, layout, records, depth, n, &most, &wide);
+    let root = subtree::write_image(image, layout, records, depth, n, &most, &total_sizes);
     btree_v2_stamp::write_header(
         header,
         layout,

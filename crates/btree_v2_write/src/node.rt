@@ -8,11 +8,11 @@ ghost use Rattle.numbers.specs.Numbers.{pick, le, part};
 ghost use Rattle.numbers.specs.Places.{stored};
 ghost use Rattle.format.specs.Bytes.{padded, leafBytes};
 ghost use Rattle.btree_v2_stamp.specs.Layouts.{formAt};
-ghost use Rattle.btree_v2_write.specs.Shares.{twoSizes, withOne, rowsAfter, pointerSize, pointerTo, pointersTo, nodesOfAll, InnerFits, innerBytes};
+ghost use Rattle.btree_v2_write.specs.Shares.{twoSizes, withOne, recordsAfter, pointerSize, pointerTo, pointersTo, nodesOfAll, InternalNodeFits, internalNodeBytes};
 use btree_v2_stamp::Layout;
 
 // Puts `count` bytes of the record list, from its place `first` on, at `at`.
-fn put_rows(node: &mut [u8], at: usize, records: &[u8], first: usize, count: usize)
+fn put_records(node: &mut [u8], at: usize, records: &[u8], first: usize, count: usize)
     requires { ⌜ (at + count ≤ length (now node)) × (first + count ≤ length (now records)) ⌝ }
     ensures { λ _. ⌜ now (node .exit) ≡ stored (now (node .entry)) at (part (now (records .entry)) first count) ⌝ }
 {
@@ -34,9 +34,9 @@ fn fill_leaf(node: &mut [u8], layout: Layout, records: &[u8], n: usize, r: usize
 {
     let size = layout.record_size;
     let bytes = n * size;
-    btree_v2_stamp::put_front(node, 76, 70, layout.tree_type);
-    put_rows(node, 6, records, r * size, bytes);
-    btree_v2_stamp::seal(node, 6 + bytes, layout.node_size);
+    btree_v2_stamp::put_front(node, b'L', b'F', layout.tree_type);
+    put_records(node, 6, records, r * size, bytes);
+    btree_v2_stamp::stamp(node, 6 + bytes, layout.node_size);
 }
 
 // Writes a leaf as node j of the image.
@@ -72,7 +72,7 @@ pub(crate) fn share(base: usize, extra: usize, i: usize) -> usize
 
 // Puts the node's own records, `kept` of them, after its front, and gives the place after them. The records below the node begin with record
 // r; a child has `base` records, the first `extra` one more.
-fn put_own_rows(
+fn put_own_records(
     node: &mut [u8],
     record_size: usize,
     records: &[u8],
@@ -82,15 +82,15 @@ fn put_own_rows(
     r: usize,
 ) -> usize
     requires { ⌜ (base < 2 ^ 32) × (6 + kept * «record_size» ≤ length (now node)) × ((r + withOne (twoSizes kept extra (base + 1) base)) * «record_size» ≤ length (now records)) × (0 < «record_size») ⌝ }
-    ensures { λ p. ⌜ (now (node .exit) ≡ stored (now (node .entry)) 6 (rowsAfter «record_size» (now (records .entry)) (twoSizes kept extra (base + 1) base) r)) × (p ≡ 6 + kept * «record_size») ⌝ }
+    ensures { λ p. ⌜ (now (node .exit) ≡ stored (now (node .entry)) 6 (recordsAfter «record_size» (now (records .entry)) (twoSizes kept extra (base + 1) base) r)) × (p ≡ 6 + kept * «record_size») ⌝ }
 {
     let mut at = 6;
-    let mut row = r;
+    let mut next_record = r;
     let mut i = 0;
     while i < kept {
-        let after = row + share(base, extra, i);
-        put_rows(node, at, records, after * record_size, record_size);
-        row = after + 1;
+        let after = next_record + share(base, extra, i);
+        put_records(node, at, records, after * record_size, record_size);
+        next_record = after + 1;
         at += record_size;
         i += 1;
     }
@@ -160,8 +160,8 @@ fn one_of(extra: usize, large: Child, small: Child, i: usize) -> Child
 }
 
 // An internal node in numbers: it keeps `kept` records; its `kept` + 1 children have `base` records, the first `extra` of them one more; the
-// first nodes and records below it are node `first_node` and record `first_row`; totals have `total_size` bytes.
-pub(crate) struct Inner {
+// first nodes and records below it are node `first_node` and record `first_record`; totals have `total_size` bytes.
+pub(crate) struct InternalNode {
     pub(crate) kept: usize,
     pub(crate) base: usize,
     pub(crate) extra: usize,
@@ -169,27 +169,27 @@ pub(crate) struct Inner {
     pub(crate) small: Child,
     pub(crate) total_size: usize,
     pub(crate) first_node: usize,
-    pub(crate) first_row: usize,
+    pub(crate) first_record: usize,
 }
 
 // Fills an internal node.
-fn fill_internal(node: &mut [u8], layout: Layout, records: &[u8], inner: Inner)
-    requires { ⌜ InnerFits layout (length (now records)) inner ⌝ ∗ ⌜ layout .«node_size» ≤ length (now node) ⌝ }
-    ensures { λ _. ⌜ now (node .exit) ≡ stored (now (node .entry)) 0 (padded (layout .«node_size») (innerBytes layout (now (records .entry)) inner)) ⌝ }
+fn fill_internal(node: &mut [u8], layout: Layout, records: &[u8], internal: InternalNode)
+    requires { ⌜ InternalNodeFits layout (length (now records)) internal ⌝ ∗ ⌜ layout .«node_size» ≤ length (now node) ⌝ }
+    ensures { λ _. ⌜ now (node .exit) ≡ stored (now (node .entry)) 0 (padded (layout .«node_size») (internalNodeBytes layout (now (records .entry)) internal)) ⌝ }
 {
-    let kept = inner.kept;
-    let extra = inner.extra;
-    let large = inner.large;
-    let small = inner.small;
-    btree_v2_stamp::put_front(node, 73, 78, layout.tree_type);
-    let at = put_own_rows(
+    let kept = internal.kept;
+    let extra = internal.extra;
+    let large = internal.large;
+    let small = internal.small;
+    btree_v2_stamp::put_front(node, b'I', b'N', layout.tree_type);
+    let at = put_own_records(
         node,
         layout.record_size,
         records,
         kept,
-        inner.base,
+        internal.base,
         extra,
-        inner.first_row,
+        internal.first_record,
     );
     let end = put_pointers(
         node,
@@ -199,10 +199,10 @@ fn fill_internal(node: &mut [u8], layout: Layout, records: &[u8], inner: Inner)
         extra,
         large,
         small,
-        inner.total_size,
-        inner.first_node,
+        internal.total_size,
+        internal.first_node,
     );
-    btree_v2_stamp::seal(node, end, layout.node_size);
+    btree_v2_stamp::stamp(node, end, layout.node_size);
 }
 
 // Writes an internal node as node j of the image.
@@ -210,12 +210,12 @@ pub(crate) fn write_internal(
     image: &mut [u8],
     layout: Layout,
     records: &[u8],
-    inner: Inner,
+    internal: InternalNode,
     j: usize,
 )
-    requires { ⌜ InnerFits layout (length (now records)) inner ⌝ ∗ ⌜ (j + 1) * layout .«node_size» ≤ length (now image) ⌝ }
-    ensures { λ _. ⌜ now (image .exit) ≡ stored (now (image .entry)) (j * layout .«node_size») (padded (layout .«node_size») (innerBytes layout (now (records .entry)) inner)) ⌝ }
+    requires { ⌜ InternalNodeFits layout (length (now records)) internal ⌝ ∗ ⌜ (j + 1) * layout .«node_size» ≤ length (now image) ⌝ }
+    ensures { λ _. ⌜ now (image .exit) ≡ stored (now (image .entry)) (j * layout .«node_size») (padded (layout .«node_size») (internalNodeBytes layout (now (records .entry)) internal)) ⌝ }
 {
     let at = j * layout.node_size;
-    fill_internal(&mut image[at..], layout, records, inner);
+    fill_internal(&mut image[at..], layout, records, internal);
 }

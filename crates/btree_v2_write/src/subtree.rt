@@ -4,7 +4,7 @@ ghost use lib.ListN.{length};
 ghost use Rattle.btree_v2_write.specs.Subtrees.{Ready, SubtreeWritten};
 use crate::node;
 use crate::node::Child;
-use crate::node::Inner;
+use crate::node::InternalNode;
 use btree_v2_stamp::Layout;
 
 // Writes the nodes of a subtree of n records, the first node being node j and the first record record r, and gives the subtree in numbers. The
@@ -19,9 +19,9 @@ fn write_subtree(
     j: usize,
     r: usize,
     most: &[u64; 33],
-    wide: &[u8; 33],
+    total_sizes: &[u8; 33],
 ) -> Child
-    requires { ⌜ Ready layout (now most) (now wide) (length (now records)) (length (now image)) depth n j r ⌝ }
+    requires { ⌜ Ready layout (now most) (now «total_sizes») (length (now records)) (length (now image)) depth n j r ⌝ }
     ensures { λ x. ⌜ SubtreeWritten layout (now (records .entry)) (now (image .entry)) (now (image .exit)) depth n j r x ⌝ }
 {
     if depth == 0 {
@@ -33,41 +33,41 @@ fn write_subtree(
         };
     }
     let under = depth - 1;
-    let dealt = plan::deal(most[under], n as u64);
-    let kept = dealt.kept as usize;
-    let base = dealt.base as usize;
-    let extra = dealt.extra as usize;
+    let distributed = plan::distribute(most[under], n as u64);
+    let kept = distributed.kept as usize;
+    let base = distributed.base as usize;
+    let extra = distributed.extra as usize;
     let first = node::share(base, extra, 0);
-    let large = write_subtree(image, layout, records, under, first, j, r, most, wide);
+    let large = write_subtree(image, layout, records, under, first, j, r, most, total_sizes);
     let mut small = Child {
         records: 0,
         total: 0,
         nodes: 0,
     };
     let mut next = j + large.nodes;
-    let mut row = r + (large.total as usize) + 1;
+    let mut next_record = r + (large.total as usize) + 1;
     let mut i = 1;
     while i <= kept {
         let m = node::share(base, extra, i);
-        small = write_subtree(image, layout, records, under, m, next, row, most, wide);
+        small = write_subtree(image, layout, records, under, m, next, next_record, most, total_sizes);
         next += small.nodes;
-        row = row + (small.total as usize) + 1;
+        next_record = next_record + (small.total as usize) + 1;
         i += 1;
     }
-    let inner = Inner {
+    let internal = InternalNode {
         kept,
         base,
         extra,
         large,
         small,
-        total_size: wide[under] as usize,
+        total_size: total_sizes[under] as usize,
         first_node: j,
-        first_row: r,
+        first_record: r,
     };
-    node::write_internal(image, layout, records, inner, next);
+    node::write_internal(image, layout, records, internal, next);
     Child {
-        records: dealt.kept,
-        total: (row - r - 1) as u64,
+        records: distributed.kept,
+        total: (next_record - r - 1) as u64,
         nodes: next + 1 - j,
     }
 }
@@ -80,10 +80,10 @@ pub(crate) fn write_image(
     depth: usize,
     n: usize,
     most: &[u64; 33],
-    wide: &[u8; 33],
+    total_sizes: &[u8; 33],
 ) -> Child
-    requires { ⌜ Ready layout (now most) (now wide) (length (now records)) (length (now image)) depth n 0 0 ⌝ }
+    requires { ⌜ Ready layout (now most) (now «total_sizes») (length (now records)) (length (now image)) depth n 0 0 ⌝ }
     ensures { λ x. ⌜ SubtreeWritten layout (now (records .entry)) (now (image .entry)) (now (image .exit)) depth n 0 0 x ⌝ }
 {
-    write_subtree(image, layout, records, depth, n, 0, 0, most, wide)
+    write_subtree(image, layout, records, depth, n, 0, 0, most, total_sizes)
 }

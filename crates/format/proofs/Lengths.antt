@@ -9,7 +9,7 @@ use lib.Seq.{take-all}
 use Rattle.numbers.proofs.Lists.{length-part, part-add}
 use Rattle.numbers.proofs.Numbers.{le-length}
 use Rattle.plan.specs.Tree.{Kids, last, more, Tree, sumKids, between, count, size, below, nodes, AllKids, Everywhere}
-use Rattle.format.specs.Bytes.{Form, summed, padded, pointerBytes, rows, leafBytes, pointer, pointers, ownRows, internalBytes, kidsImage, image}
+use Rattle.format.specs.Bytes.{Form, summed, padded, pointerBytes, recordRange, leafBytes, pointer, pointers, ownRecords, internalBytes, kidsImage, image}
 use Rattle.format.specs.Fit.{pointerLength, Fit}
 
 pub length-summed : (b : List ℕ) → length (summed b) ≡ length b + 4
@@ -25,21 +25,21 @@ module _ (g : Form) (start : ℕ) (recs : List ℕ) where
   abbrev pub Room : ℕ → ℕ → Type 0
   Room r m = (r + m) * g .rs ≤ length recs
 
-  pub length-rows : (r n : ℕ) → Room r n → length (rows g start recs r n) ≡ n * g .rs
-  unfolding rows
-  length-rows r n h = length-part recs (r * g .rs) (n * g .rs) (omega arith)
+  pub length-range : (r n : ℕ) → Room r n → length (recordRange g start recs r n) ≡ n * g .rs
+  unfolding recordRange
+  length-range r n h = length-part recs (r * g .rs) (n * g .rs) (omega arith)
 
-  pub rows-all : (n : ℕ) → length recs ≡ n * g .rs → rows g start recs 0 n ≡ recs
-  unfolding rows
-  rows-all n e = rw (zero-mul, take-all (n * g .rs) recs (omega arith))
+  pub range-all : (n : ℕ) → length recs ≡ n * g .rs → recordRange g start recs 0 n ≡ recs
+  unfolding recordRange
+  range-all n e = rw (zero-mul, take-all (n * g .rs) recs (omega arith))
 
-  pub rows-add : (r m n : ℕ) → rows g start recs r m ++ rows g start recs (r + m) n ≡ rows g start recs r (m + n)
-  unfolding rows
-  rows-add r m n = rw (add-mul r m, add-mul m n, part-add)
+  pub range-add : (r m n : ℕ) → recordRange g start recs r m ++ recordRange g start recs (r + m) n ≡ recordRange g start recs r (m + n)
+  unfolding recordRange
+  range-add r m n = rw (add-mul r m, add-mul m n, part-add)
 
   pub length-leaf : (n r : ℕ) → Room r n → length (leafBytes g start recs n r) ≡ 6 + n * g .rs
   unfolding leafBytes
-  length-leaf n r h = omega (arith, length-rows r n h)
+  length-leaf n r h = omega (arith, length-range r n h)
 
   module _ (d : ℕ) where
     pub length-pointer : (t : Tree d) (j : ℕ) → length (pointer g start recs d t j) ≡ pointerLength g d
@@ -53,17 +53,17 @@ module _ (g : Form) (start : ℕ) (recs : List ℕ) where
         rw (length-append, length-pointer t j, length-pointers ts (j + nodes d t)) (omega arith)
 
     pub length-own : (ts : Kids (Tree d)) (r : ℕ) → Room r (sumKids (size d) ts + between ts)
-        → length (ownRows g start recs d ts r) ≡ between ts * g .rs
-    unfolding ownRows between sumKids
+        → length (ownRecords g start recs d ts r) ≡ between ts * g .rs
+    unfolding ownRecords between sumKids
     length-own (last t) r h = rw zero-mul
     length-own (more t ts) r h =
-        rw (length-append, length-rows (r + size d t) 1 (omega arith), length-own ts (r + size d t + 1) (omega arith)) (omega arith)
+        rw (length-append, length-range (r + size d t) 1 (omega arith), length-own ts (r + size d t + 1) (omega arith)) (omega arith)
 
     pub length-internal : (ts : Kids (Tree d)) (j r : ℕ) → Room r (sumKids (size d) ts + between ts)
         → length (internalBytes g start recs d ts j r) ≡ 6 + between ts * g .rs + (between ts + 1) * pointerLength g d
     unfolding internalBytes
     length-internal ts j r h =
-        omega (arith, length-append (ownRows g start recs d ts r) (pointers g start recs d ts j), length-own ts r h, length-pointers ts j)
+        omega (arith, length-append (ownRecords g start recs d ts r) (pointers g start recs d ts j), length-own ts r h, length-pointers ts j)
 
     -- The nodes of all children, if the image of each has its length.
     pub length-children : ((t : Tree d) (j r : ℕ) → Everywhere (Fit g) d t → Room r (size d t) → length (image g start recs d t j r) ≡ nodes d t * g .ns)

@@ -46,12 +46,12 @@ address g start j = start + j * g .ns
 -- The tree of the records recs, its nodes from address start on.
 module _ (g : Form) (start : ℕ) (recs : List ℕ) where
   -- Records r to r + n - 1 of the list.
-  unfoldable pub rows : ℕ → ℕ → List ℕ
-  rows r n = part recs (r * g .rs) (n * g .rs)
+  unfoldable pub recordRange : ℕ → ℕ → List ℕ
+  recordRange r n = part recs (r * g .rs) (n * g .rs)
 
   -- A leaf of n records, the first of them record r.
   unfoldable pub leafBytes : ℕ → ℕ → List ℕ
-  leafBytes n r = leafSignature ++ (0 ∷ g .treeType ∷ rows r n)
+  leafBytes n r = leafSignature ++ (0 ∷ g .treeType ∷ recordRange r n)
 
   -- The pointer to a subtree of depth d whose first node is node j.
   unfoldable pub pointer : (d : ℕ) → Tree d → ℕ → List ℕ
@@ -63,13 +63,13 @@ module _ (g : Form) (start : ℕ) (recs : List ℕ) where
   pointers d (more t ts) j = pointer d t j ++ pointers d ts (j + nodes d t)
 
   -- The node's own records; the first record below is record r.
-  unfoldable pub ownRows : (d : ℕ) → Kids (Tree d) → ℕ → List ℕ
-  ownRows d (last t) r = []
-  ownRows d (more t ts) r = rows (r + size d t) 1 ++ ownRows d ts (r + size d t + 1)
+  unfoldable pub ownRecords : (d : ℕ) → Kids (Tree d) → ℕ → List ℕ
+  ownRecords d (last t) r = []
+  ownRecords d (more t ts) r = recordRange (r + size d t) 1 ++ ownRecords d ts (r + size d t + 1)
 
   -- An internal node whose children have depth d; its first node below is node j, its first record below record r.
   unfoldable pub internalBytes : (d : ℕ) → Kids (Tree d) → ℕ → ℕ → List ℕ
-  internalBytes d ts j r = internalSignature ++ (0 ∷ g .treeType ∷ (ownRows d ts r ++ pointers d ts j))
+  internalBytes d ts j r = internalSignature ++ (0 ∷ g .treeType ∷ (ownRecords d ts r ++ pointers d ts j))
 
   -- The nodes of the children, one child after another, each made by f.
   unfoldable pub kidsImage : (d : ℕ) → (Tree d → ℕ → ℕ → List ℕ) → Kids (Tree d) → ℕ → ℕ → List ℕ

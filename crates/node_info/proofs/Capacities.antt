@@ -5,8 +5,8 @@ use native.Mathlib.Nat.{add-le-add, add-mul, add-sub-cancel, div-le-self, div-mu
 use native.Mathlib.Decide.{le-ind}
 use native.Mathlib.Omega.{arith}
 use lib.Arith.{mul-pred}
-use Rattle.numbers.specs.Numbers.{held, width}
-use Rattle.numbers.proofs.Numbers.{width-le, width-holds, width-mono, held-mono, held-add, held-mul}
+use Rattle.numbers.specs.Numbers.{saturated, width}
+use Rattle.numbers.proofs.Numbers.{width-le, width-holds, width-mono, saturated-mono, saturated-add, saturated-mul}
 use Rattle.node_info.specs.Capacity.{leafCapacity, countWidth, subtree, pointerSize, internalCapacity, subtreeCapacity, totalWidth, nodeCapacity}
 
 -- From one level to the next, so from a level to any above it.
@@ -24,10 +24,10 @@ div-le a b {c} {d} p h l = le-div-iff-mul-le p .1 (le-trans (mul-le-mul-left (a 
 subtree-child : (m c : ℕ) → c < 2 ^ 64 → c ≤ subtree m c
 subtree-child m c h = rw (add-mul, one-mul) (omega arith)
 
-subtree-grows : (m b n c : ℕ) → m ≤ n → held b ≤ c → held (b * (m + 1) + m) ≤ subtree n c
+subtree-grows : (m b n c : ℕ) → m ≤ n → saturated b ≤ c → saturated (b * (m + 1) + m) ≤ subtree n c
 subtree-grows m b n c h l =
-    rw (mul-comm b (m + 1), ← held-add ((m + 1) * b) m, ← held-mul (m + 1) b, held-add ((m + 1) * held b) m)
-    (held-mono ((m + 1) * held b + m) ((n + 1) * c + n) (add-le-add (mul-le-mul (add-le-add h (le-refl 1)) l) h))
+    rw (mul-comm b (m + 1), ← saturated-add ((m + 1) * b) m, ← saturated-mul (m + 1) b, saturated-add ((m + 1) * saturated b) m)
+    (saturated-mono ((m + 1) * saturated b + m) ((n + 1) * c + n) (add-le-add (mul-le-mul (add-le-add h (le-refl 1)) l) h))
 
 module _ (ns rs : ℕ) where
   pub leaf-le : leafCapacity ns rs ≤ ns
@@ -69,12 +69,12 @@ module _ (ns rs ow : ℕ) where
   unfolding totalWidth
   total-suc u = refl
 
-  held-subtree : (u : ℕ) → subtreeCapacity ns rs ow (suc u) < 2 ^ 64
-  held-subtree u = rw subtree-suc (omega arith)
+  saturated-subtree : (u : ℕ) → subtreeCapacity ns rs ow (suc u) < 2 ^ 64
+  saturated-subtree u = rw subtree-suc (omega arith)
 
   pub subtree-lt : ns < 2 ^ 64 → (u : ℕ) → subtreeCapacity ns rs ow u < 2 ^ 64
   subtree-lt h zero = rw subtree-zero (lt-of-le-of-lt (leaf-le ns rs) h)
-  subtree-lt h (suc u) = held-subtree u
+  subtree-lt h (suc u) = saturated-subtree u
 
   pub total-le : (u : ℕ) → totalWidth ns rs ow u ≤ 8
   total-le zero = rw total-zero zero-le
@@ -92,7 +92,7 @@ module _ (ns rs ow : ℕ) where
 
   total-up : (u : ℕ) → totalWidth ns rs ow u ≤ totalWidth ns rs ow (suc u)
   total-up zero = rw total-zero zero-le
-  total-up (suc u) = rw (total-suc u, total-suc (suc u)) (width-mono _ _ (subtree-up (suc u) (held-subtree u)))
+  total-up (suc u) = rw (total-suc u, total-suc (suc u)) (width-mono _ _ (subtree-up (suc u) (saturated-subtree u)))
 
   pub total-rises : {u v : ℕ} → u ≤ v → totalWidth ns rs ow u ≤ totalWidth ns rs ow v
   total-rises = rises (totalWidth ns rs ow) total-up
@@ -100,7 +100,7 @@ module _ (ns rs ow : ℕ) where
   -- A total fits its field, above the leaves.
   pub total-fits : (u n : ℕ) → 0 < u → n ≤ subtreeCapacity ns rs ow u → n < 256 ^ totalWidth ns rs ow u
   total-fits zero n p h = absurd (not-suc-le-zero p)
-  total-fits (suc u) n p h = rw total-suc (lt-of-le-of-lt h (width-holds _ (held-subtree u)))
+  total-fits (suc u) n p h = rw total-suc (lt-of-le-of-lt h (width-holds _ (saturated-subtree u)))
 
   -- The bytes of a node fit: of a leaf, and of an internal node of level u + 1.
   pub leaf-bytes : (n : ℕ) → 10 ≤ ns → n ≤ nodeCapacity ns rs ow 0 → 10 + n * rs ≤ ns
@@ -117,7 +117,7 @@ module _ (ns rs ow : ℕ) where
       rw (add-mul, one-mul) (omega (arith, pos-of-div-pos (rs + t) p, rw mul-add at room))
 
   -- For records of a byte or more M never rises with the level, the leaves' included; so a count fits its field, and nodes of m records
-  -- or more make C at least a power, as far as it is not held.
+  -- or more make C at least a power, as far as it is not saturated.
   module _ (pos : 0 < rs) where
     node-down : (u : ℕ) → nodeCapacity ns rs ow (suc u) ≤ nodeCapacity ns rs ow u
     unfolding nodeCapacity internalCapacity leafCapacity pointerSize
@@ -135,7 +135,7 @@ module _ (ns rs ow : ℕ) where
     count-fits l u n h =
         lt-of-le-of-lt (le-trans h (node-le-leaf u)) (width-holds (leafCapacity ns rs) (lt-of-le-of-lt (leaf-le ns rs) l))
 
-    pub subtree-power : (m u : ℕ) → m ≤ nodeCapacity ns rs ow u → held ((m + 1) ^ (u + 1) - 1) ≤ subtreeCapacity ns rs ow u
+    pub subtree-power : (m u : ℕ) → m ≤ nodeCapacity ns rs ow u → saturated ((m + 1) ^ (u + 1) - 1) ≤ subtreeCapacity ns rs ow u
     subtree-power m zero h =
         rw (subtree-zero, ← node-zero, pow-suc (m + 1) 0, pow-zero, one-mul) (omega arith)
     subtree-power m (suc u) h =

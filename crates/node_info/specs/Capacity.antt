@@ -1,7 +1,7 @@
 -- Capacities and field widths of a tree's levels, for every node size ns, record size rs and offset size ow: from document 01,
 -- "Capacity table", whose letters stand beside each name; level 0 is the leaves.
 use Prim.Native.Nat.{ℕ, zero, suc, _+_, _-_, _*_, _/_}
-use Rattle.numbers.specs.Numbers.{held, width}
+use Rattle.numbers.specs.Numbers.{saturated, width}
 
 -- L: the records that a leaf holds. Differences stop at 0 and a quotient by 0 is 0.
 unfoldable pub leafCapacity : ℕ → ℕ → ℕ
@@ -18,7 +18,7 @@ widthOfTotal (suc u) c = width c
 
 -- C of a level whose nodes hold m records and whose children's subtrees hold c.
 abbrev pub subtree : ℕ → ℕ → ℕ
-subtree m c = held ((m + 1) * c + m)
+subtree m c = saturated ((m + 1) * c + m)
 
 -- P(u) of a level whose child pointers have offsets of ow bytes, record counts of w = W and totals of t = T(u - 1).
 unfoldable pub pointerSize : ℕ → ℕ → ℕ → ℕ

@@ -94,13 +94,13 @@ impl NodeInfo {
         ensures { λ r. ⌜ r ≡ infoAt «node_size» «record_size» 0 0 ⌝ }
     {
         let most = max_records_leaf(node_size, record_size);
-        let wide = numbers::bytes_for_max_records(most);
+        let count_size = numbers::bytes_for_max_records(most);
         let mut max_nrec = [0u64; 33];
         max_nrec[0] = most;
         let mut cum_max_nrec = [0u64; 33];
         cum_max_nrec[0] = most;
         NodeInfo {
-            max_nrec_size: wide,
+            max_nrec_size: count_size,
             cum_max_nrec_size: [0u8; 33],
             max_nrec,
             cum_max_nrec,
@@ -130,14 +130,14 @@ impl NodeInfo {
             };
         }
         let mut info = NodeInfo::leaf_only(node_size, record_size);
-        let wide = info.max_nrec_size;
+        let count_size = info.max_nrec_size;
         let mut u = 0;
         while u < depth as usize {
             let below = u;
             u += 1;
             let total = info.cum_max_nrec_size[below];
             let under = info.cum_max_nrec[below];
-            let level = level_above(node_size, record_size, offset_size, wide, total, under);
+            let level = level_above(node_size, record_size, offset_size, count_size, total, under);
             info.cum_max_nrec_size[u] = level.total;
             info.max_nrec[u] = level.most;
             info.cum_max_nrec[u] = level.all;

@@ -15,7 +15,7 @@ use borrow.Author.Fill.{fill-none, fill-more}
 use borrow.Author.Needs.{zero≤}
 use borrow.Author.Tests.{leb-true, leb-false}
 use borrow.Rule.Slice.PartMut.{putMid}
-use Rattle.numbers.specs.Numbers.{part, held}
+use Rattle.numbers.specs.Numbers.{part, saturated}
 
 -- What there is of a part: nothing, all that follows, or the whole of it.
 module _ (l : List ℕ) (at count : ℕ) where
@@ -28,15 +28,15 @@ module _ (l : List ℕ) (at count : ℕ) where
   pub part-there : part l at (at + count - at) ≡ part l at count
   part-there = rw add-sub-cancel-left
 
--- No slice reaches a place that is held.
-pub part-held : (l : List ℕ) (p w : ℕ) → length l < 2 ^ 64 → part l (held p) w ≡ part l p w
-part-held l p w h = by (leb p (2 ^ 64 - 1)) refl
+-- No slice reaches a place that is saturated.
+pub part-saturated : (l : List ℕ) (p w : ℕ) → length l < 2 ^ 64 → part l (saturated p) w ≡ part l p w
+part-saturated l p w h = by (leb p (2 ^ 64 - 1)) refl
   where
-    by : (b : Bool) → leb p (2 ^ 64 - 1) ≡ b → part l (held p) w ≡ part l p w
-    by true e = let s : held p ≡ p = omega (arith, leb-true p (2 ^ 64 - 1) e) in rw s
+    by : (b : Bool) → leb p (2 ^ 64 - 1) ≡ b → part l (saturated p) w ≡ part l p w
+    by true e = let s : saturated p ≡ p = omega (arith, leb-true p (2 ^ 64 - 1) e) in rw s
     by false e =
         let over = leb-false p (2 ^ 64 - 1) e in
-        rw (part-past l (held p) w (omega arith), part-past l p w (omega arith))
+        rw (part-past l (saturated p) w (omega arith), part-past l p w (omega arith))
 
 -- The loop of `copy`: the first i bytes are copied.
 abbrev pub Copied : List ℕ → List ℕ → List ℕ → ℕ → Type 0

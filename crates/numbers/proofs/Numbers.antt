@@ -1,4 +1,4 @@
--- Laws of numbers in bytes, of the byte width of a count, and of sums and products held at 2^64 - 1.
+-- Laws of numbers in bytes, of the byte width of a count, and of sums and products saturated at 2^64 - 1.
 use mathlib.Core.Path.{_≡_, refl}
 use mathlib.Core.Bool.{Bool, true, false}
 use mathlib.Core.List.{List, [], _∷_, _++_}
@@ -12,7 +12,7 @@ use lib.Pow.{pow-add, pow-mono}
 use lib.Dec.{ltb, eqb, lit<}
 use lib.ListN.{length, getD, drop, length-take, List·getD-eq-default}
 use borrow.Author.Tests.{ltb-true, ltb-false, lt-ltb, le-ltb, ne-eqb}
-use Rattle.numbers.specs.Numbers.{le, unle, part, num, held, leastFrom, width, fieldSize}
+use Rattle.numbers.specs.Numbers.{le, unle, part, num, saturated, leastFrom, width, fieldSize}
 use Rattle.numbers.proofs.Lists.{length-part, getD-part, part-add}
 
 -- The test of two numbers, as a choice.
@@ -143,28 +143,28 @@ width-bits x h ne =
     let down : top .0 < 8 * width x = lt-of-not-le (λ (g : 8 * width x ≤ top .0). not-le-of-lt (rw pow-256 at (width-holds x h)) (le-trans (pow-mono g) (top .2))) in
     omega (arith, top .1)
 
-pub held-small : (x : ℕ) → x < 2 ^ 64 → held x ≡ x
-held-small x h = omega arith
+pub saturated-small : (x : ℕ) → x < 2 ^ 64 → saturated x ≡ x
+saturated-small x h = omega arith
 
-pub held-over : (x : ℕ) → 2 ^ 64 ≤ x → 2 ^ 64 - 1 ≡ held x
-held-over x h = omega arith
+pub saturated-over : (x : ℕ) → 2 ^ 64 ≤ x → 2 ^ 64 - 1 ≡ saturated x
+saturated-over x h = omega arith
 
-pub held-mono : (x y : ℕ) → x ≤ y → held x ≤ held y
-held-mono x y h = omega arith
+pub saturated-mono : (x y : ℕ) → x ≤ y → saturated x ≤ saturated y
+saturated-mono x y h = omega arith
 
-pub held-add : (a b : ℕ) → held (held a + b) ≡ held (a + b)
-held-add a b = omega arith
+pub saturated-add : (a b : ℕ) → saturated (saturated a + b) ≡ saturated (a + b)
+saturated-add a b = omega arith
 
-pub held-mul : (a b : ℕ) → held (a * held b) ≡ held (a * b)
-held-mul zero b = omega arith
-held-mul (suc a) b =
+pub saturated-mul : (a b : ℕ) → saturated (a * saturated b) ≡ saturated (a * b)
+saturated-mul zero b = omega arith
+saturated-mul (suc a) b =
     ⊎-elim
-    (λ (h : b < 2 ^ 64). rw (held-small b h))
+    (λ (h : b < 2 ^ 64). rw (saturated-small b h))
     (λ (h : 2 ^ 64 ≤ b). simp suc-mul (omega arith))
     (lt-or-le b (2 ^ 64))
 
-pub held-step : (a c p r m : ℕ) → p ≡ held (a * c) → r ≡ held (p + m) → r ≡ held (a * c + m)
-held-step a c p r m hp hr = omega arith
+pub saturated-step : (a c p r m : ℕ) → p ≡ saturated (a * c) → r ≡ saturated (p + m) → r ≡ saturated (a * c + m)
+saturated-step a c p r m hp hr = omega arith
 
 -- Whether a sum fits, by a difference, and whether a product does, by a quotient.
 module _ (a b : ℕ) where
@@ -174,7 +174,7 @@ module _ (a b : ℕ) where
   pub sum-over : 2 ^ 64 - 1 - b < a → 2 ^ 64 ≤ a + b
   sum-over l = omega arith
 
-  pub zero-product : a ≡ 0 → 0 ≡ held (a * b)
+  pub zero-product : a ≡ 0 → 0 ≡ saturated (a * b)
   zero-product e = rw (e, zero-mul)
 
   pub product-fits : (a ≡ 0 → ⊥) → b ≤ (2 ^ 64 - 1) / a → a * b < 2 ^ 64

@@ -26,9 +26,9 @@ part l p w = take w (drop p l)
 unfoldable pub num : List ℕ → ℕ → ℕ → ℕ
 num l p w = unle (part l p w)
 
--- x, held at 2^64 - 1.
-abbrev pub held : ℕ → ℕ
-held x = min x (2 ^ 64 - 1)
+-- x, saturated at 2^64 - 1.
+abbrev pub saturated : ℕ → ℕ
+saturated x = min x (2 ^ 64 - 1)
 
 -- The first of k, k + 1, .. , k + f that is a number of bytes that holds x, k + f if none before it is.
 unfoldable pub leastFrom : ℕ → ℕ → ℕ → ℕ

@@ -5,7 +5,7 @@ ghost use mathlib.Core.Path.{_≡_};
 ghost use Prim.Native.Nat.{_+_, _≤_, min, _*_};
 ghost use lib.Dec.{leb};
 ghost use lib.ListN.{length};
-ghost use Rattle.numbers.specs.Numbers.{pick, le, part, num, held, width, fieldSize};
+ghost use Rattle.numbers.specs.Numbers.{pick, le, part, num, saturated, width, fieldSize};
 ghost use Rattle.numbers.specs.Places.{put};
 
 // The number in the `width` bytes at `at`, lowest first; of a field that runs past the end, its bytes before the end. A width above 8
@@ -117,16 +117,16 @@ pub fn bytes_for_max_records(max_nrec: u64) -> u8
     ((bits + 7) / 8) as u8
 }
 
-// a + b, held at 2^64 - 1.
+// a + b, saturated at 2^64 - 1.
 pub fn saturating_add(a: u64, b: u64) -> u64
-    ensures { λ r. ⌜ r ≡ held (a + b) ⌝ }
+    ensures { λ r. ⌜ r ≡ saturated (a + b) ⌝ }
 {
     if a <= u64::MAX - b { a + b } else { u64::MAX }
 }
 
-// a * b, held at 2^64 - 1.
+// a * b, saturated at 2^64 - 1.
 pub fn saturating_mul(a: u64, b: u64) -> u64
-    ensures { λ r. ⌜ r ≡ held (a * b) ⌝ }
+    ensures { λ r. ⌜ r ≡ saturated (a * b) ⌝ }
 {
     if a == 0 {
         return 0;

@@ -13,7 +13,7 @@ use mir.Val.{Fits}
 use Rattle.plan.specs.Steps.{levelOf, Countable, Counted}
 use Rattle.plan.specs.Tree.{below, nodes, leaves}
 use Rattle.plan.specs.Planned.{taken, planTree, thin}
-use Rattle.plan.proofs.Dealing.{share, extra, taken-one, taken-quotient, taken-pos, taken-le, extra-lt, all-children-more, all-children-less}
+use Rattle.plan.proofs.Distributing.{share, extra, taken-one, taken-quotient, taken-pos, taken-le, extra-lt, all-children-more, all-children-less}
 use Rattle.plan.proofs.Plans.{plan-nodes, plan-leaves, plan-nodes-le}
 use Rattle.plan.proofs.Thin.{thin-pos, thin-children}
 use Rattle.plan.proofs.Trees.{leaves-le-nodes}
@@ -29,26 +29,26 @@ pub thin-test : (d n : ℕ) → d ≤ 32 → ltb n (1 * 2 ^ (d + 1) % 2 ^ 64 - 1
 thin-test d n h = rw (power d h)
 
 -- What a node keeps and deals.
-abbrev Dealing : ℕ → ℕ → ℕ → ℕ → ℕ → Type 0
-Dealing most n kept base rest = (kept ≡ taken most n) × (base ≡ share most n) × (rest ≡ extra most n)
+abbrev Distributing : ℕ → ℕ → ℕ → ℕ → ℕ → Type 0
+Distributing most n kept base rest = (kept ≡ taken most n) × (base ≡ share most n) × (rest ≡ extra most n)
 
-pub deal-none : (most n : ℕ) → n ≡ 0 → Dealing most n 1 0 0
-deal-none most n e =
+pub distribute-none : (most n : ℕ) → n ≡ 0 → Distributing most n 1 0 0
+distribute-none most n e =
     let one : taken most n ≡ 1 = taken-one most n (omega arith) in
     rw (one, e) (refl, refl, refl)
 
-pub deal-one : (most n : ℕ) → n / 2 ≤ most → Dealing most n 1 ((n - 1) / 2) ((n - 1) % 2)
-deal-one most n h = rw (taken-one most n (omega arith)) (refl, refl, refl)
+pub distribute-one : (most n : ℕ) → n / 2 ≤ most → Distributing most n 1 ((n - 1) / 2) ((n - 1) % 2)
+distribute-one most n h = rw (taken-one most n (omega arith)) (refl, refl, refl)
 
 module _ (most n : ℕ) (h : most < n / 2) where
   many : taken most n ≡ n / (most + 1)
   many = taken-quotient most n (omega arith)
 
-  pub deal-all : n - n / (most + 1) ≡ 0 → Dealing most n (n / (most + 1)) 0 0
-  deal-all e = rw (many, e, zero-div, zero-mod) (refl, refl, refl)
+  pub distribute-all : n - n / (most + 1) ≡ 0 → Distributing most n (n / (most + 1)) 0 0
+  distribute-all e = rw (many, e, zero-div, zero-mod) (refl, refl, refl)
 
-  pub deal-more : Dealing most n (n / (most + 1)) ((n - n / (most + 1)) / (n / (most + 1) + 1)) ((n - n / (most + 1)) % (n / (most + 1) + 1))
-  deal-more = rw many (refl, refl, refl)
+  pub distribute-more : Distributing most n (n / (most + 1)) ((n - n / (most + 1)) / (n / (most + 1) + 1)) ((n - n / (most + 1)) % (n / (most + 1) + 1))
+  distribute-more = rw many (refl, refl, refl)
 
 pub split-fits : (most n kept : ℕ) → kept ≡ taken most n → 0 < n → n < 2 ^ 24 → Fits w64 (kept + 1)
 split-fits most n kept e h l = omega (arith, taken-le most n h)

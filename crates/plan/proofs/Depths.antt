@@ -60,9 +60,9 @@ module _ (f : ℕ → Bool) where
         (lt-or-le (leastLevel f k 0) r) in
         omega arith
 
--- 3^(u + 1) is far from being held at 2^64 - 1.
-unheld : (u c : ℕ) → u < 32 → min (3 ^ (u + 1) - 1) (2 ^ 64 - 1) ≤ c → 3 ^ (u + 1) ≤ c + 1
-unheld u c h l =
+-- 3^(u + 1) is far from being saturated at 2^64 - 1.
+unsaturated : (u c : ℕ) → u < 32 → min (3 ^ (u + 1) - 1) (2 ^ 64 - 1) ≤ c → 3 ^ (u + 1) ≤ c + 1
+unsaturated u c h l =
     let small : 3 ^ (u + 1) ≤ 3 ^ 32 = pow-le-pow-right {n = 3} (lit< tt) {i = u + 1} {j = 32} (omega arith) in omega arith
 
 module _ (n rs ns ow : ℕ) where
@@ -240,6 +240,6 @@ module _ (n rs ns ow : ℕ) where
         leaf = rw (subtree-zero, node-zero) (le-refl _);
         most = λ u h. rw (subtree-suc ns rs ow u) (omega arith);
         some = holds;
-        room = λ u h two. unheld u (subtreeCapacity ns rs ow u) (omega (arith, depth-le))
+        room = λ u h two. unsaturated u (subtreeCapacity ns rs ow u) (omega (arith, depth-le))
             (subtree-power ns rs ow some 2 u (le-trans two (node-falls ns rs ow some (le-suc u))));
       }

@@ -2,7 +2,7 @@
 pub mod Accepted
 pub mod Checks
 pub mod Counting
-pub mod Dealing
+pub mod Distributing
 pub mod Depths
 pub mod Laying
 pub mod Lists

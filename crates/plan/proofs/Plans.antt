@@ -5,7 +5,7 @@ use Prim.Native.Nat.{ℕ, zero, suc, _+_, _-_, _*_, _≤_, _<_}
 use native.Mathlib.Omega.{arith}
 use Rattle.plan.specs.Tree.{Tree, sumKids, between, count, size, below, nodes, leaves}
 use Rattle.plan.specs.Planned.{taken, children, planTree, thin}
-use Rattle.plan.proofs.Dealing.{sumOf-children, share, extra, length-children, children-some, sum-children, children-le, taken-pos, taken-le, taken-most}
+use Rattle.plan.proofs.Distributing.{sumOf-children, share, extra, length-children, children-some, sum-children, children-le, taken-pos, taken-le, taken-most}
 use Rattle.plan.proofs.Lists.{all-of-map, all-of-both, sumOf, sumOf-cong, sumKids-of, between-of, all-kids-of}
 use Rattle.plan.proofs.Thin.{Levels, levels-below, thin-pos, thin-children}
 use Rattle.plan.proofs.Trees.{Within, Filled, nodes-le-size}

@@ -11,7 +11,7 @@ use lib.Dec.{ltb, lit<, lit≤}
 use borrow.Author.Tests.{ltb-false, lt-ltb, le-ltb}
 use Rattle.numbers.proofs.Numbers.{lt-or-le}
 use Rattle.plan.specs.Planned.{taken, children, anyOf, thin}
-use Rattle.plan.proofs.Dealing.{taken-most, taken-many, taken-pos, children-le, children-ge}
+use Rattle.plan.proofs.Distributing.{taken-most, taken-many, taken-pos, children-le, children-ge}
 use Rattle.plan.proofs.Lists.{AllOf, all-of-both}
 
 -- What is known of the capacities of the levels up to d: c of a subtree, m of a node.
@@ -80,9 +80,9 @@ many-kept : (b c k n : ℕ) → 2 ≤ k → 3 * b ≤ 2 * c → k * (c + 1) ≤ 
 many-kept b c k n h l t = omega (arith, mul-le-mul-left k l, mul-le-mul-right b h)
 
 module _ (c m : ℕ → ℕ) where
-  dealt-enough : (d n : ℕ) → Levels c m (suc d) → n ≤ c (suc d) → 2 ^ (d + 2) - 1 ≤ n
+  distributed-enough : (d n : ℕ) → Levels c m (suc d) → n ≤ c (suc d) → 2 ^ (d + 2) - 1 ≤ n
       → (2 ^ (d + 1) - 1) * (taken (c d) n + 1) + taken (c d) n ≤ n
-  dealt-enough d n l h e =
+  distributed-enough d n l h e =
       ⊎-elim
       (λ (one : taken (c d) n < 2).
       one-kept (2 ^ (d + 1) - 1) (taken (c d) n) n (omega (arith, taken-pos (c d) n)) (omega (arith, next d, one-le-pow (d + 1) 2 (lit< tt))))
@@ -102,7 +102,7 @@ module _ (c m : ℕ → ℕ) where
       (any-none (thin c d) (children (c d) n)
       (all-of-both (λ x. x ≤ c d) (λ x. 2 ^ (d + 1) - 1 ≤ x) (λ x. thin c d x ≡ false)
       (λ x a b. thin-not d x (levels-below c m d l) a b)
-      (children (c d) n) (children-le (c d) n) (children-ge (2 ^ (d + 1) - 1) (c d) n (dealt-enough d n l h g))))
+      (children (c d) n) (children-le (c d) n) (children-ge (2 ^ (d + 1) - 1) (c d) n (distributed-enough d n l h g))))
 
   thin-yes : (d n : ℕ) → n < 2 ^ (d + 1) - 1 → thin c d n ≡ true
   unfolding thin

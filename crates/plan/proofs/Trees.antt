@@ -2,7 +2,7 @@
 use mathlib.Core.Path.{_≡_, refl}
 use Prim.Native.Nat.{ℕ, zero, suc, _+_, _≤_}
 use native.Mathlib.Omega.{arith}
-use Rattle.plan.specs.Tree.{Kids, last, more, Tree, sumKids, between, count, size, below, nodes, leaves, internals, inner, AllKids, Everywhere}
+use Rattle.plan.specs.Tree.{Kids, last, more, Tree, sumKids, between, count, size, below, nodes, leaves, internals, internalRecords, AllKids, Everywhere}
 
 module _ {A : Type 0} where
   pub all-kids : (P : A → Type 0) → ((t : A) → P t) → (ts : Kids A) → AllKids P ts
@@ -44,11 +44,11 @@ module _ {A : Type 0} where
   sumKids-more f ts = omega (arith, sumKids-add f (λ t. 1) ts, sumKids-one ts)
 
 -- Leaves are one more than records in internal nodes.
-pub leaves-inner : (d : ℕ) (t : Tree d) → leaves d t ≡ inner d t + 1
-unfolding leaves inner
-leaves-inner zero n = refl
-leaves-inner (suc d) ts =
-    omega (arith, sumKids-cong (leaves d) (λ t. inner d t + 1) ts (all-kids _ (leaves-inner d) ts), sumKids-more (inner d) ts)
+pub leaves-one-more : (d : ℕ) (t : Tree d) → leaves d t ≡ internalRecords d t + 1
+unfolding leaves internalRecords
+leaves-one-more zero n = refl
+leaves-one-more (suc d) ts =
+    omega (arith, sumKids-cong (leaves d) (λ t. internalRecords d t + 1) ts (all-kids _ (leaves-one-more d) ts), sumKids-more (internalRecords d) ts)
 
 -- A node is a leaf or an internal node.
 pub nodes-kinds : (d : ℕ) (t : Tree d) → nodes d t ≡ leaves d t + internals d t

@@ -22,13 +22,13 @@ ceilDiv a b = (a + (b - 1)) / b
 unfoldable pub taken : ℕ → ℕ → ℕ
 taken c n = max 1 (ceilDiv (n - c) (c + 1))
 
--- m records dealt to p children: the first m % p of them get one more.
-unfoldable pub dealt : ℕ → ℕ → List ℕ
-dealt m p = replicate (m % p) (m / p + 1) ++ replicate (p - m % p) (m / p)
+-- m records distributed to p children: the first m % p of them get one more.
+unfoldable pub distributed : ℕ → ℕ → List ℕ
+distributed m p = replicate (m % p) (m / p + 1) ++ replicate (p - m % p) (m / p)
 
 -- The children's numbers of records.
 unfoldable pub children : ℕ → ℕ → List ℕ
-children c n = dealt (n - taken c n) (taken c n + 1)
+children c n = distributed (n - taken c n) (taken c n + 1)
 
 -- The children of these numbers, each made by f; a node has one at least.
 unfoldable pub kidsOf : {A : Type 0} → (ℕ → A) → List ℕ → Kids A

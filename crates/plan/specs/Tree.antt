@@ -50,9 +50,9 @@ internals zero n = 0
 internals (suc d) ts = sumKids (internals d) ts + 1
 
 -- The records in internal nodes.
-unfoldable pub inner : (d : ℕ) → Tree d → ℕ
-inner zero n = 0
-inner (suc d) ts = sumKids (inner d) ts + between ts
+unfoldable pub internalRecords : (d : ℕ) → Tree d → ℕ
+internalRecords zero n = 0
+internalRecords (suc d) ts = sumKids (internalRecords d) ts + between ts
 
 -- Every child has the property.
 abbrev pub AllKids : {A : Type 0} → (A → Type 0) → Kids A → Type 0

@@ -38,19 +38,19 @@ pub struct PlanAndTable {
     pub info: NodeInfo,
 }
 
-// How a node's records are dealt: it keeps `kept`, and of its `kept` + 1 children the first `extra` get `base` + 1 and the others `base`.
-pub struct Dealt {
+// How a node's records are distributed: it keeps `kept`, and of its `kept` + 1 children the first `extra` get `base` + 1 and the others `base`.
+pub struct Distribution {
     pub kept: u64,
     pub base: u64,
     pub extra: u64,
 }
 
-// How n records are dealt where each child's subtree holds `most` at most. Two children are what most nodes of a deep tree have.
-pub fn deal(most: u64, n: u64) -> Dealt
+// How n records are distributed where each child's subtree holds `most` at most. Two children are what most nodes of a deep tree have.
+pub fn distribute(most: u64, n: u64) -> Distribution
     ensures { λ r. ⌜ (r .kept ≡ taken most n) × (r .base ≡ (n - taken most n) / (taken most n + 1)) × (r .extra ≡ (n - taken most n) % (taken most n + 1)) ⌝ }
 {
     if n == 0 {
-        return Dealt {
+        return Distribution {
             kept: 1,
             base: 0,
             extra: 0,
@@ -58,7 +58,7 @@ pub fn deal(most: u64, n: u64) -> Dealt
     }
     if n / 2 <= most {
         let rest = n - 1;
-        return Dealt {
+        return Distribution {
             kept: 1,
             base: rest / 2,
             extra: rest % 2,
@@ -67,14 +67,14 @@ pub fn deal(most: u64, n: u64) -> Dealt
     let kept = n / (most + 1);
     let rest = n - kept;
     if rest == 0 {
-        return Dealt {
+        return Distribution {
             kept,
             base: 0,
             extra: 0,
         };
     }
     let parts = kept + 1;
-    Dealt {
+    Distribution {
         kept,
         base: rest / parts,
         extra: rest % parts,
@@ -92,11 +92,11 @@ fn split(most: u64, n: u64) -> Shares
     requires { ⌜ (0 < n) × (n < 2 ^ 24) ⌝ }
     ensures { λ r. ⌜ (r .parts ≡ taken most n + 1) × (r .base ≡ (n - taken most n) / (taken most n + 1)) × (r .extra ≡ (n - taken most n) % (taken most n + 1)) ⌝ }
 {
-    let dealt = deal(most, n);
+    let distributed = distribute(most, n);
     Shares {
-        parts: dealt.kept + 1,
-        base: dealt.base,
-        extra: dealt.extra,
+        parts: distributed.kept + 1,
+        base: distributed.base,
+        extra: distributed.extra,
     }
 }
 
@@ -107,20 +107,20 @@ struct Counts {
 }
 
 // A sum over the children, of `larger` for each of the first `extra` and `smaller` for each of the others.
-fn over_children(dealt: Shares, larger: u64, smaller: u64) -> u64
-    requires { ⌜ (dealt .parts ≤ 2 ^ 24) × (dealt .extra < dealt .parts) × (larger < 2 ^ 24) × (smaller < 2 ^ 24) ⌝ }
-    ensures { λ r. ⌜ (r ≡ dealt .extra * larger + (dealt .parts - dealt .extra) * smaller) × (r ≤ 2 ^ 48) ⌝ }
+fn over_children(distributed: Shares, larger: u64, smaller: u64) -> u64
+    requires { ⌜ (distributed .parts ≤ 2 ^ 24) × (distributed .extra < distributed .parts) × (larger < 2 ^ 24) × (smaller < 2 ^ 24) ⌝ }
+    ensures { λ r. ⌜ (r ≡ distributed .extra * larger + (distributed .parts - distributed .extra) * smaller) × (r ≤ 2 ^ 48) ⌝ }
 {
-    dealt.extra * larger + (dealt.parts - dealt.extra) * smaller
+    distributed.extra * larger + (distributed.parts - distributed.extra) * smaller
 }
 
 // The counts of a node whose children have these.
-fn gather(dealt: Shares, larger: Counts, smaller: Counts) -> Counts
-    requires { ⌜ (dealt .parts ≤ 2 ^ 24) × (dealt .extra < dealt .parts) × (larger .nodes < 2 ^ 24) × (larger .leaves < 2 ^ 24) × (smaller .nodes < 2 ^ 24) × (smaller .leaves < 2 ^ 24) ⌝ }
-    ensures { λ r. ⌜ (r .nodes ≡ dealt .extra * larger .nodes + (dealt .parts - dealt .extra) * smaller .nodes + 1) × (r .leaves ≡ dealt .extra * larger .leaves + (dealt .parts - dealt .extra) * smaller .leaves) ⌝ }
+fn gather(distributed: Shares, larger: Counts, smaller: Counts) -> Counts
+    requires { ⌜ (distributed .parts ≤ 2 ^ 24) × (distributed .extra < distributed .parts) × (larger .nodes < 2 ^ 24) × (larger .leaves < 2 ^ 24) × (smaller .nodes < 2 ^ 24) × (smaller .leaves < 2 ^ 24) ⌝ }
+    ensures { λ r. ⌜ (r .nodes ≡ distributed .extra * larger .nodes + (distributed .parts - distributed .extra) * smaller .nodes + 1) × (r .leaves ≡ distributed .extra * larger .leaves + (distributed .parts - distributed .extra) * smaller .leaves) ⌝ }
 {
-    let under = over_children(dealt, larger.nodes, smaller.nodes);
-    let leaves = over_children(dealt, larger.leaves, smaller.leaves);
+    let under = over_children(distributed, larger.nodes, smaller.nodes);
+    let leaves = over_children(distributed, larger.leaves, smaller.leaves);
     Counts {
         nodes: under + 1,
         leaves,
@@ -139,13 +139,13 @@ fn count_subtree(levels: &[u64; 33], depth: usize, n: u64) -> Counts
         };
     }
     let under = depth - 1;
-    let dealt = split(levels[under], n);
-    let smaller = count_subtree(levels, under, dealt.base);
-    if dealt.extra == 0 {
-        return gather(dealt, smaller, smaller);
+    let distributed = split(levels[under], n);
+    let smaller = count_subtree(levels, under, distributed.base);
+    if distributed.extra == 0 {
+        return gather(distributed, smaller, smaller);
     }
-    let larger = count_subtree(levels, under, dealt.base + 1);
-    gather(dealt, larger, smaller)
+    let larger = count_subtree(levels, under, distributed.base + 1);
+    gather(distributed, larger, smaller)
 }
 
 // Whether n records, not none, are too few for a tree of this depth.
@@ -184,12 +184,12 @@ fn deepen(record_count: u64, record_size: u16, node_size: u32, offset_size: u8) 
     ensures { λ r. ⌜ Searched «record_count» «record_size» «node_size» «offset_size» (r .info) (r .depth) (r .enough) ⌝ }
 {
     let mut info = NodeInfo::leaf_only(node_size, record_size);
-    let wide = info.max_nrec_size;
+    let count_size = info.max_nrec_size;
     let mut u = 0;
     while info.cum_max_nrec[u] < record_count && 0 < info.max_nrec[u] {
         let total = info.cum_max_nrec_size[u];
         let under = info.cum_max_nrec[u];
-        let level = node_info::level_above(node_size, record_size, offset_size, wide, total, under);
+        let level = node_info::level_above(node_size, record_size, offset_size, count_size, total, under);
         u += 1;
         info.cum_max_nrec_size[u] = level.total;
         info.max_nrec[u] = level.most;

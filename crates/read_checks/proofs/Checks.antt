@@ -11,7 +11,7 @@ use mir.Syntax.{w32}
 use mir.Val.{Fits}
 use borrow.Author.Tests.{leb-true, le-leb, lt-leb, eq-eqb, ne-eqb, not-true, not-false}
 use Rattle.checksum.specs.Lookup3.{lookup3}
-use Rattle.numbers.specs.Numbers.{part, num, held}
+use Rattle.numbers.specs.Numbers.{part, num, saturated}
 use Rattle.numbers.proofs.Lists.{part-cons}
 use Rattle.numbers.proofs.Numbers.{num-lt}
 use Rattle.refusal.specs.declared.Refusal.{Refusal}
@@ -24,38 +24,38 @@ use Rattle.refusal.specs.declared.Verdict.the-variants.{Accepted, Refused}
 
 -- What the verdict of a test tells of the test.
 module _ (v : Verdict) (t : Bool) (number : ℕ) (values : List ℕ)
-    (told : verdictOf v ≡ orElse t (refused number values) (accepted [])) where
+    (code : verdictOf v ≡ orElse t (refused number values) (accepted [])) where
   pub verdict-passed : v ≡ Accepted → t ≡ true
-  verdict-passed e = by t (rw e at told)
+  verdict-passed e = by t (rw e at code)
     where
       by : (b : Bool) → accepted [] ≡ orElse b (refused number values) (accepted []) → b ≡ true
       by true h = refl
       by false h = cc
 
   pub verdict-stopped : (r : Refusal) → v ≡ Refused r → (rest : Answer) → orElse t (refused number values) rest ≡ refusalOf r
-  verdict-stopped r e rest = by t (rw e at told)
+  verdict-stopped r e rest = by t (rw e at code)
     where
       by : (b : Bool) → refusalOf r ≡ orElse b (refused number values) (accepted []) → orElse b (refused number values) rest ≡ refusalOf r
       by true h = let f = refused-is r .2 in cc
       by false h = cc
 
 -- A test and what goes on where it accepts.
-module _ (v : Verdict) (first next : Answer) (told : verdictOf v ≡ first) where
+module _ (v : Verdict) (first next : Answer) (code : verdictOf v ≡ first) where
   pub first-refuses : (r : Refusal) → v ≡ Refused r → verdictOf v ≡ onAccepted first next
-  first-refuses r e = rw (← told, e, refused-is r .2)
+  first-refuses r e = rw (← code, e, refused-is r .2)
 
   pub first-accepts : v ≡ Accepted → onAccepted first next ≡ next
-  first-accepts e = rw (← told, e)
+  first-accepts e = rw (← code, e)
 
 -- The same of `ensure_len` and of `check_checksum`.
-module _ (end length : ℕ) (v : Verdict) (told : verdictOf v ≡ needs end length (accepted [])) where
+module _ (end length : ℕ) (v : Verdict) (code : verdictOf v ≡ needs end length (accepted [])) where
   pub bytes-there : v ≡ Accepted → end ≤ length
-  bytes-there e = leb-true end length (verdict-passed v (leb end length) 1 (held end ∷ length ∷ []) told e)
+  bytes-there e = leb-true end length (verdict-passed v (leb end length) 1 (saturated end ∷ length ∷ []) code e)
 
   pub bytes-missing : (r : Refusal) → v ≡ Refused r → (rest : Answer) → needs end length rest ≡ refusalOf r
-  bytes-missing = verdict-stopped v (leb end length) 1 (held end ∷ length ∷ []) told
+  bytes-missing = verdict-stopped v (leb end length) 1 (saturated end ∷ length ∷ []) code
 
-module _ (file : List ℕ) (from end : ℕ) (v : Verdict) (told : verdictOf v ≡ checksumTest file from end (accepted [])) where
+module _ (file : List ℕ) (from end : ℕ) (v : Verdict) (code : verdictOf v ≡ checksumTest file from end (accepted [])) where
   abbrev right : Bool
   right = eqb (num file end 4) (lookup3 (part file from (end - from)))
 
@@ -64,11 +64,11 @@ module _ (file : List ℕ) (from end : ℕ) (v : Verdict) (told : verdictOf v �
 
   pub sum-right : v ≡ Accepted → (rest : Answer) → checksumTest file from end rest ≡ rest
   unfolding checksumTest
-  sum-right e rest = rw (verdict-passed v right 6 figures told e)
+  sum-right e rest = rw (verdict-passed v right 6 figures code e)
 
   pub sum-wrong : (r : Refusal) → v ≡ Refused r → (rest : Answer) → checksumTest file from end rest ≡ refusalOf r
   unfolding checksumTest
-  sum-wrong = verdict-stopped v right 6 figures told
+  sum-wrong = verdict-stopped v right 6 figures code
 
 -- A test that the code negates.
 module _ (t x : Bool) (is : t ≡ x) where
@@ -78,8 +78,8 @@ module _ (t x : Bool) (is : t ≡ x) where
   pub test-fails : not t ≡ true → x ≡ false
   test-fails n = rw (← is) (not-true t n)
 
--- `ensure_len`: the end is held at 2^64 - 1, and no slice is that long.
-module _ (end length figure : ℕ) (h : figure ≡ held end) where
+-- `ensure_len`: the end is saturated at 2^64 - 1, and no slice is that long.
+module _ (end length figure : ℕ) (h : figure ≡ saturated end) where
   pub len-short : length < figure → refused 1 (figure ∷ length ∷ []) ≡ needs end length (accepted [])
   len-short l = rw (lt-leb end length (omega arith), h)
 

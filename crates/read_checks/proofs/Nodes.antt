@@ -27,15 +27,15 @@ module _ (n k : ℕ) (h : n < 2 ^ 16) (l : k < 2 ^ 16) where
   pub product-fits : Fits w64 (n * k)
   product-fits = omega (arith, product-small)
 
-  pub rows-end-fits : Fits w64 (6 + n * k)
-  rows-end-fits = omega (arith, product-small)
+  pub records-end-fits : Fits w64 (6 + n * k)
+  records-end-fits = omega (arith, product-small)
 
 -- `check_front`: its two tests.
 module _ (file signature : List ℕ) (a : ℕ) where
   pub front-short : (prefix : Verdict) → verdictOf prefix ≡ needs (a + 6) (length file) (accepted []) → (q : Refusal) → prefix ≡ Refused q
       → verdictOf prefix ≡ frontTest file signature a
   unfolding frontTest
-  front-short prefix told q e = rw e (sym (bytes-missing (a + 6) (length file) prefix told q e _))
+  front-short prefix code q e = rw e (sym (bytes-missing (a + 6) (length file) prefix code q e _))
 
   module _ (t : Bool) (is : t ≡ same (part file a 4) signature) where
     pub front-right : t ≡ true → a + 6 ≤ length file → accepted [] ≡ frontTest file signature a
@@ -47,9 +47,9 @@ module _ (file signature : List ℕ) (a : ℕ) where
     front-wrong e h = rw (le-leb _ _ h, ← is, e)
 
 -- Where `check_front` accepts, the first 6 bytes of the node are there.
-module _ (file signature : List ℕ) (a : ℕ) (front : Verdict) (told : verdictOf front ≡ frontTest file signature a) (begun : front ≡ Accepted) where
+module _ (file signature : List ℕ) (a : ℕ) (front : Verdict) (code : verdictOf front ≡ frontTest file signature a) (begun : front ≡ Accepted) where
   pub front-there : a + 6 ≤ length file
-  front-there = passing.front-there file signature a [] (sym told ∙ ap verdictOf begun)
+  front-there = passing.front-there file signature a [] (sym code ∙ ap verdictOf begun)
 
   pub front-fits : length file < 2 ^ 64 → Fits w64 (a + 6)
   front-fits h = omega (arith, front-there)

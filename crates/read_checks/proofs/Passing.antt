@@ -6,7 +6,7 @@ use Prim.Native.Nat.{ℕ, _+_, _-_, _≤_}
 use lib.Dec.{leb}
 use lib.ListN.{length}
 use borrow.Author.Tests.{leb-true, le-leb, eq-eqb}
-use Rattle.numbers.specs.Numbers.{held, part}
+use Rattle.numbers.specs.Numbers.{saturated, part}
 use Rattle.refusal.specs.Answer.{Answer, accepted, refused, orElse, onAccepted}
 use Rattle.read_checks.specs.Tests.{needs, same, frontTest}
 
@@ -19,7 +19,7 @@ passed false number values figures rest e = (cc, cc)
 pub there : (end length : ℕ) (figures : List ℕ) (rest : Answer) → needs end length rest ≡ accepted figures
     → (end ≤ length) × (rest ≡ accepted figures)
 there end length figures rest e =
-    let h = passed (leb end length) 1 (held end ∷ length ∷ []) figures rest e in (leb-true end length (h .0), h .1)
+    let h = passed (leb end length) 1 (saturated end ∷ length ∷ []) figures rest e in (leb-true end length (h .0), h .1)
 
 pub passed-both : (first next : Answer) (figures : List ℕ) → onAccepted first next ≡ accepted figures
     → (f : List ℕ) × (first ≡ accepted f) × (next ≡ accepted figures)
@@ -55,4 +55,4 @@ module _ (file signature : List ℕ) (a : ℕ) where
   pub front-then : (next : Answer) → onAccepted (frontTest file signature a) next
       ≡ needs (a + 6) (length file) (orElse (same (part file a 4) signature) (refused 2 []) next)
   unfolding frontTest
-  front-then = tests-then (leb (a + 6) (length file)) (held (a + 6) ∷ length file ∷ []) (same (part file a 4) signature)
+  front-then = tests-then (leb (a + 6) (length file)) (saturated (a + 6) ∷ length file ∷ []) (same (part file a 4) signature)

@@ -4,14 +4,14 @@ use Prim.Native.Nat.{ℕ, _+_, _-_, _*_}
 use mathlib.Core.List.{[], _∷_, List}
 use lib.Dec.{leb, eqb}
 use lib.ListN.{length}
-use Rattle.numbers.specs.Numbers.{held, part, num}
+use Rattle.numbers.specs.Numbers.{saturated, part, num}
 use Rattle.refusal.specs.Answer.{Answer, accepted, refused, orElse}
 use mathlib.Core.Bool.{Bool, true, false, _&&_}
 use Rattle.checksum.specs.Lookup3.{lookup3}
 
 -- Refusal 1 where fewer than `end` bytes are there of `length`.
 abbrev pub needs : ℕ → ℕ → Answer → Answer
-needs end length rest = orElse (leb end length) (refused 1 (held end ∷ length ∷ [])) rest
+needs end length rest = orElse (leb end length) (refused 1 (saturated end ∷ length ∷ [])) rest
 
 -- Whether two lists of bytes are the same.
 unfoldable pub same : List ℕ → List ℕ → Bool

@@ -20,19 +20,19 @@ length-cells k (accepted figures) = simp (length-take, length-append, length-rep
 length-cells k (refused number values) = simp (length-take, length-append, length-replicate) (omega arith)
 
 -- Where there is room for all, n zeros follow.
-row : (z : ℕ) (l : List ℕ) (k n : ℕ) → k ≡ length l + n → take k (l ++ replicate k z) ≡ l ++ replicate n z
-row z l k n e =
+nextRecord : (z : ℕ) (l : List ℕ) (k n : ℕ) → k ≡ length l + n → take k (l ++ replicate k z) ≡ l ++ replicate n z
+nextRecord z l k n e =
     rw (e, take-append-add, add-comm, ← replicate-append-replicate n (length l) z, take-at (replicate n z) (replicate (length l) z) n (length-replicate n z))
 
 pub cells-accepted : (k : ℕ) (figures : List ℕ) (n : ℕ) → k ≡ suc (length figures) + n
     → cells k (accepted figures) ≡ (0 ∷ figures) ++ replicate n 0
 unfolding cells
-cells-accepted k figures n e = row 0 (0 ∷ figures) k n e
+cells-accepted k figures n e = nextRecord 0 (0 ∷ figures) k n e
 
 pub cells-refused : (k number : ℕ) (values : List ℕ) (n : ℕ) → k ≡ suc (length values) + n
     → cells k (refused number values) ≡ (number ∷ values) ++ replicate n 0
 unfolding cells
-cells-refused k number values n e = row 0 (number ∷ values) k n e
+cells-refused k number values n e = nextRecord 0 (number ∷ values) k n e
 
 -- No cause has more than two values, so what `told` tells is all of it: m cells more are zeros.
 more : (m number : ℕ) (values : List ℕ) → length values ≤ 2
@@ -62,8 +62,8 @@ refused-is (DepthAboveLimit depth) = (_, _, refl, lit≤ tt, lit< tt)
 pub cells-more : (r : Refusal) (m : ℕ) → cells (m + 3) (refusalOf r) ≡ cells 3 (refusalOf r) ++ replicate m 0
 cells-more r m = let s = refused-is r in rw (s .2) (more m (s .0) (s .1) (s .3))
 
-pub told-more : (r : Refusal) (m : ℕ) {t : List ℕ} → t ≡ cells 3 (refusalOf r) → t ++ replicate m 0 ≡ cells (m + 3) (refusalOf r)
-told-more r m e = rw (cells-more, ← e)
+pub code-more : (r : Refusal) (m : ℕ) {t : List ℕ} → t ≡ cells 3 (refusalOf r) → t ++ replicate m 0 ≡ cells (m + 3) (refusalOf r)
+code-more r m e = rw (cells-more, ← e)
 
 -- What was put has the answer's length, and is the answer y too where that is x.
 pub put-length : (x : Answer) {z : List ℕ} {k : ℕ} → z ≡ cells k x → length z ≡ k
@@ -73,14 +73,14 @@ pub put-is : {x y : Answer} {z : List ℕ} {n k : ℕ} → x ≡ y → n ≡ k �
 put-is e l h = rw (← e, ← l) h
 
 -- What `of_two` gives in an arm is the cause's number and values.
-pub told-is : {s t : Refusal} {n x y a b c : ℕ} → s ≡ t → (a ≡ n) × (b ≡ x) × (c ≡ y) → n ∷ x ∷ y ∷ [] ≡ cells 3 (refusalOf t)
+pub code-is : {s t : Refusal} {n x y a b c : ℕ} → s ≡ t → (a ≡ n) × (b ≡ x) × (c ≡ y) → n ∷ x ∷ y ∷ [] ≡ cells 3 (refusalOf t)
     → a ∷ b ∷ c ∷ [] ≡ cells 3 (refusalOf s)
-told-is e h r = rw (e, h .0, h .1, h .2) r
+code-is e h r = rw (e, h .0, h .1, h .2) r
 
 -- What a verdict tells: zeros, or what its cause tells.
-pub accepted-told : {v : Verdict} {a b c : ℕ} → v ≡ Accepted → (a ≡ 0) × (b ≡ 0) × (c ≡ 0) → a ∷ b ∷ c ∷ [] ≡ cells 3 (verdictOf v)
+pub accepted-code : {v : Verdict} {a b c : ℕ} → v ≡ Accepted → (a ≡ 0) × (b ≡ 0) × (c ≡ 0) → a ∷ b ∷ c ∷ [] ≡ cells 3 (verdictOf v)
 unfolding cells
-accepted-told e h = rw (e, h .0, h .1, h .2)
+accepted-code e h = rw (e, h .0, h .1, h .2)
 
-pub refused-told : {v : Verdict} {r : Refusal} {t : List ℕ} → v ≡ Refused r → t ≡ cells 3 (refusalOf r) → t ≡ cells 3 (verdictOf v)
-refused-told e h = rw e h
+pub refused-code : {v : Verdict} {r : Refusal} {t : List ℕ} → v ≡ Refused r → t ≡ cells 3 (refusalOf r) → t ≡ cells 3 (verdictOf v)
+refused-code e h = rw e h

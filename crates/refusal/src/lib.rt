@@ -41,16 +41,16 @@ pub enum Refusal {
 }
 
 // A cause's number and its values, 0 where it has fewer than two.
-pub struct Told {
+pub struct Code {
     pub number: u64,
     pub first: u64,
     pub second: u64,
 }
 
-fn of_two(number: u64, first: u64, second: u64) -> Told
+fn of_two(number: u64, first: u64, second: u64) -> Code
     ensures { λ r. ⌜ (r .number ≡ number) × (r .first ≡ first) × (r .second ≡ second) ⌝ }
 {
-    Told {
+    Code {
         number,
         first,
         second,
@@ -59,7 +59,7 @@ fn of_two(number: u64, first: u64, second: u64) -> Told
 
 impl Refusal {
     // The number and values of this cause.
-    pub fn told(self) -> Told
+    pub fn code(self) -> Code
         ensures { λ r. ⌜ r .number ∷ r .first ∷ r .second ∷ [] ≡ cells 3 (refusalOf self) ⌝ }
     {
         match self {
@@ -96,12 +96,12 @@ pub enum Verdict {
 
 impl Verdict {
     // The number and values of the refusal, zeros where there is none.
-    pub fn told(self) -> Told
+    pub fn code(self) -> Code
         ensures { λ r. ⌜ r .number ∷ r .first ∷ r .second ∷ [] ≡ cells 3 (verdictOf self) ⌝ }
     {
         match self {
             Verdict::Accepted => of_two(0, 0, 0),
-            Verdict::Refused(cause) => cause.told(),
+            Verdict::Refused(cause) => cause.code(),
         }
     }
 }

@@ -7,7 +7,7 @@ use native.Mathlib.Nat.{zero-mul, eq-zero-or-pos}
 use native.Mathlib.Omega.{arith}
 use lib.ListN.{length, getD, take, drop}
 use lib.Seq.{take-at, drop-at}
-use Rattle.numbers.specs.Numbers.{held, part}
+use Rattle.numbers.specs.Numbers.{saturated, part}
 use Rattle.refusal.specs.declared.Refusal.{Refusal}
 use Rattle.refusal.specs.Answer.{accepted, refused, cells, verdictOf}
 use Rattle.refusal.proofs.Answers.{refused-is}
@@ -42,21 +42,21 @@ use Rattle.round_trip.specs.Nodes.{nodeAddress, nodeRecords}
 use Rattle.round_trip.specs.ThreeCalls.{Lent, onHeader, Collects, readBack, Holds, NodesCounted, Complete, Answered}
 use Rattle.round_trip.proofs.Roots.{root-address, root-records}
 
--- An accepted walk's cells: the verdict accepts, and each count is the walk's, held.
-record Told (v : Verdict) (t : Tally) (c : Counts) : Type 0 where
+-- An accepted walk's cells: the verdict accepts, and each count is the walk's, saturated.
+record CellsSay (v : Verdict) (t : Tally) (c : Counts) : Type 0 where
   verdict : verdictOf v ≡ accepted []
-  records : t .records ≡ held (c .records)
-  leaves : t .leaves ≡ held (c .leaves)
-  internals : t .internals ≡ held (c .internals)
-  inner : t .inner ≡ held (c .inner)
+  records : t .records ≡ saturated (c .records)
+  leaves : t .leaves ≡ saturated (c .leaves)
+  internals : t .internals ≡ saturated (c .internals)
+  internalRecords : t .«internal_records» ≡ saturated (c .internalRecords)
 
 abbrev counted : Tally → List ℕ
-counted t = t .records ∷ t .leaves ∷ t .internals ∷ t .inner ∷ []
+counted t = t .records ∷ t .leaves ∷ t .internals ∷ t .«internal_records» ∷ []
 
-told : (v : Verdict) (t : Tally) (c : Counts) → cells 3 (verdictOf v) ++ counted t ≡ cells 3 (accepted []) ++ countCells c → Told v t c
+cells-say : (v : Verdict) (t : Tally) (c : Counts) → cells 3 (verdictOf v) ++ counted t ≡ cells 3 (accepted []) ++ countCells c → CellsSay v t c
 unfolding cells
-told verdict.Accepted t c e = record { verdict = refl; records = cc; leaves = cc; internals = cc; inner = cc }
-told (verdict.Refused r) t c e =
+cells-say verdict.Accepted t c e = record { verdict = refl; records = cc; leaves = cc; internals = cc; internalRecords = cc }
+cells-say (verdict.Refused r) t c e =
     let s = refused-is r in
     let f : cells 3 (refused (s .0) (s .1)) ++ counted t ≡ cells 3 (accepted []) ++ countCells c = rw (s .2) at e in
     let z : s .0 ≡ 0 = ap (λ (l : List ℕ). getD l 0 0) f in
@@ -64,7 +64,7 @@ told (verdict.Refused r) t c e =
 
 -- A collecting that a refused header ends.
 abbrev pub nothing : Refusal → Collected
-nothing cause = record { verdict = verdict.Refused cause; tally = record { records = 0; leaves = 0; internals = 0; inner = 0 } }
+nothing cause = record { verdict = verdict.Refused cause; tally = record { records = 0; leaves = 0; internals = 0; «internal_records» = 0 } }
 
 abbrev figuresOf : BTreeV2Plan → List ℕ
 figuresOf p = p .depth ∷ p .nodes ∷ p .leaves ∷ p .«image_size» ∷ []
@@ -127,9 +127,9 @@ module _ (q : Request) (p : BTreeV2Plan) (s : Lent) (ok : written q (s .records)
       unfolding readBack headerWritten
       whole = rw header-back ends
 
-      tells : Told (r .collected .verdict) (r .collected .tally) c
+      tells : CellsSay (r .collected .verdict) (r .collected .tally) c
       unfolding runCells
-      tells = told (r .collected .verdict) (r .collected .tally) c (rw whole at (run .cells))
+      tells = cells-say (r .collected .verdict) (r .collected .tally) c (rw whole at (run .cells))
 
       with-counts : (1 ≤ q .n → NodesCounted q p (r .collected .tally)) → Complete q p (s .records) (s .output) r o
       unfolding headerWritten
@@ -175,7 +175,7 @@ module _ (q : Request) (p : BTreeV2Plan) (s : Lent) (ok : written q (s .records)
           with-counts (b .counts) (b .output) (b .records)
           (λ n. record {
             leaves = omega (arith, t .leaves, b .leavesPlanned, b .allNodes, b .atMost, few, same .leaves);
-            oneMore = omega (arith, t .leaves, t .inner, b .oneMore, b .allNodes, b .atMost, few);
+            oneMore = omega (arith, t .leaves, t .internalRecords, b .oneMore, b .allNodes, b .atMost, few);
             allNodes = omega (arith, t .leaves, t .internals, b .allNodes, b .atMost, few, same .nodes);
             atMost = rw (same .nodes) (b .atMost);
           })
@@ -204,13 +204,13 @@ module _ (q : Request) (s : Lent) (x : PlanAnswer) (h i : List ℕ) (p : HeaderA
       → o ≡ runOutput (onHeader (headerAnswerOf p) (s .file) (q .ow) (s .output))
       → Answered q s (record { written = x; header = p; collected = c }) h i o
   unfolding readBack
-  answered small wrote hl il told hc ho =
-      let run : Collects (readBack q s) c o = record { cells = rw told at hc; output = rw told at ho } in
+  answered small wrote hl il cells-say hc ho =
+      let run : Collects (readBack q s) c o = record { cells = rw cells-say at hc; output = rw cells-say at ho } in
       record {
         written = wrote;
         headerLeft = hl;
         imageLeft = il;
-        parsed = told;
+        parsed = cells-say;
         collected = run;
-        complete = λ plan e holds long. complete q plan s (sym wrote ∙ ap planAnswerOf e) small h i hl il holds long _ o told run;
+        complete = λ plan e holds long. complete q plan s (sym wrote ∙ ap planAnswerOf e) small h i hl il holds long _ o cells-say run;
       }

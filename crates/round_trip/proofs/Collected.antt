@@ -11,7 +11,7 @@ use Rattle.numbers.specs.Numbers.{part}
 use Rattle.numbers.proofs.Lists.{stored-is}
 use Rattle.refusal.specs.Answer.{accepted}
 use Rattle.plan.specs.Tree.{size}
-use Rattle.plan.proofs.Trees.{leaves-inner, nodes-kinds, nodes-le-size}
+use Rattle.plan.proofs.Trees.{leaves-one-more, nodes-kinds, nodes-le-size}
 use Rattle.format.specs.Bytes.{address}
 use Rattle.btree_v2_collect.specs.Walk.{fine, noCounts, Tests, nodeRun}
 use Rattle.format.specs.Request.{Request, formOf, depthOf, nodesOf, imageOf, rootOf, rootRecordsOf}
@@ -19,7 +19,7 @@ use Rattle.btree_v2_header.specs.Header.{headerFigures, parsed}
 use Rattle.btree_v2_collect.specs.Collect.{collectTests, sourceOf, collected}
 use Rattle.round_trip.specs.Return.{headerWritten, Returned}
 use Rattle.write_checks.proofs.Accepted.{Accepts, root-fits}
-use Rattle.format.proofs.Lengths.{rows-all, length-image}
+use Rattle.format.proofs.Lengths.{range-all, length-image}
 use Rattle.btree_v2_collect.proofs.Sound.{treeTally}
 use Rattle.round_trip.proofs.Image.{sourceFor, Passes, Imaged, collecting-passes, image-walks}
 use Rattle.write_checks.proofs.Fitting.{tree, positive, plan, sized, filled, fits, root-some, deep, room}
@@ -45,7 +45,7 @@ module _ (q : Request) (recs : List ℕ) (a : Accepts q recs) (some : 1 ≤ q .n
     unfolding rootOf rootRecordsOf formOf
     walks tests passes =
         let w = image-walks (formOf q) (q .start) recs file tests passes (depthOf q) (tree q) 0 0 imaged noCounts out (rw (zero-add, sized q recs a some) long) in
-        let all = rows-all (formOf q) (q .start) recs (size (depthOf q) (tree q)) (rw (sized q recs a some) (a .records)) in
+        let all = range-all (formOf q) (q .start) recs (size (depthOf q) (tree q)) (rw (sized q recs a some) (a .records)) in
         simp (zero-add, zero-mul, all, stored-is, a .records) at w
 
     pub collects : collected file (headerWritten q) (q .ow) out ≡ fine (treeTally (depthOf q) (tree q)) (recs ++ drop (q .n * q .rs) out)
@@ -65,7 +65,7 @@ module _ (q : Request) (recs : List ℕ) (a : Accepts q recs) (some : 1 ≤ q .n
           output = collects;
           records = sized q recs a some;
           leavesPlanned = refl;
-          oneMore = leaves-inner (depthOf q) (tree q);
+          oneMore = leaves-one-more (depthOf q) (tree q);
           allNodes = sym (nodes-kinds (depthOf q) (tree q));
           atMost = rw (sized q recs a some) at (nodes-le-size (depthOf q) (tree q) (filled q recs a some));
         }

@@ -27,7 +27,7 @@ use Rattle.numbers.proofs.Standing.{Stand, stand-left, stand-right, stand-end, 
 use Rattle.read_checks.proofs.Passing.{same-refl}
 use Rattle.round_trip.proofs.Summed.{checksum-passes}
 use Rattle.write_checks.proofs.Accepted.{Accepts, count-fits, root-fits}
-use Rattle.write_checks.proofs.Fitting.{root-held}
+use Rattle.write_checks.proofs.Fitting.{root-saturated}
 use Rattle.format.proofs.HeaderLengths.{fromSize, unsummed, length-unsummed, length-header, length-headerOf}
 
 -- A byte or a field, and what stands after it.
@@ -104,7 +104,7 @@ module _ (q : Request) (recs : List ℕ) (a : Accepts q recs) where
   root-small =
       ⊎-elim
       (λ (z : q .n ≡ 0). rw (root-empty z) (lit< tt))
-      (λ (some : 0 < q .n). omega (arith, plan, root-held q recs a some, div-le-self (q .ns - 10) (q .rs)))
+      (λ (some : 0 < q .n). omega (arith, plan, root-saturated q recs a some, div-le-self (q .ns - 10) (q .rs)))
       (eq-zero-or-pos (q .n))
 
   -- The header stands whole at o, and is read as it was written.

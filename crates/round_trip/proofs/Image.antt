@@ -15,7 +15,7 @@ use Rattle.numbers.proofs.Numbers.{le-length}
 use Rattle.refusal.specs.Answer.{accepted}
 use Rattle.plan.specs.Tree.{Kids, last, more, Tree, sumKids, between, count, size, below, nodes, AllKids, Everywhere}
 use Rattle.plan.proofs.Trees.{everywhere-root}
-use Rattle.format.specs.Bytes.{Form, leafSignature, internalSignature, summed, padded, pointerBytes, address, rows, leafBytes, pointer, pointers, ownRows, internalBytes, kidsImage, image}
+use Rattle.format.specs.Bytes.{Form, leafSignature, internalSignature, summed, padded, pointerBytes, address, recordRange, leafBytes, pointer, pointers, ownRecords, internalBytes, kidsImage, image}
 use Rattle.btree_v2_collect.specs.Walk.{Counts, fine, Tests, nodeRun}
 use Rattle.btree_v2_internal.specs.Internal.{Source, pointerWidth, pointerPlace, childAddress, childRecords, internalBody, internalTest}
 use Rattle.btree_v2_leaf.specs.Leaf.{leafBody, leafTest}
@@ -26,7 +26,7 @@ use Rattle.read_checks.specs.Tests.{recordsEnd}
 use Rattle.read_checks.proofs.Passing.{front-passes}
 use Rattle.round_trip.proofs.Summed.{checksum-passes}
 use Rattle.format.specs.Fit.{pointerLength, Fit}
-use Rattle.format.proofs.Lengths.{Room, length-rows, rows-add, length-pointer, length-own, length-internal, length-image, length-children}
+use Rattle.format.proofs.Lengths.{Room, length-range, range-add, length-pointer, length-own, length-internal, length-image, length-children}
 use Rattle.btree_v2_collect.specs.InFile.{childrenBytes, treeBytes, ChildSound, ChildrenSound, Sound}
 use Rattle.btree_v2_collect.proofs.Sound.{between-one, treeTally, puts-node}
 
@@ -70,8 +70,8 @@ module _ (g : Form) (start : ℕ) (recs file : List ℕ) where
     leaf-passes : (n r a : ℕ) → Room g start recs r n → Stand file a (summed (leafBytes g start recs n r)) → leafTest file (g .rs) a n ≡ accepted []
     unfolding leafTest leafBody leafBytes
     leaf-passes n r a h st =
-        let s = node-stands leafSignature (rows g start recs r n) a refl st in
-        let l = length-rows g start recs r n h in
+        let s = node-stands leafSignature (recordRange g start recs r n) a refl st in
+        let l = length-range g start recs r n h in
         let e : a + recordsEnd (g .rs) n ≡ a + length (leafBytes g start recs n r) = omega arith in
         let there : a + recordsEnd (g .rs) n + 4 ≤ length file = omega arith in
         rw (front-passes file leafSignature a (omega arith) (s .begins), le-leb (a + recordsEnd (g .rs) n) (length file) (omega arith), le-leb _ _ there, e)
@@ -81,7 +81,7 @@ module _ (g : Form) (start : ℕ) (recs file : List ℕ) where
         → Stand file a (summed (internalBytes g start recs d ts j r)) → internalTest source d a (between ts) ≡ accepted []
     unfolding internalTest internalBody internalBytes pointerWidth
     internal-passes d ts j r a h st =
-        let s = node-stands internalSignature (ownRows g start recs d ts r ++ pointers g start recs d ts j) a refl st in
+        let s = node-stands internalSignature (ownRecords g start recs d ts r ++ pointers g start recs d ts j) a refl st in
         let l = length-internal g start recs d ts j r h in
         let end = recordsEnd (g .rs) (between ts) in
         let there : end + (between ts + 1) * pointerLength g d ≤ length file - a = omega arith in
@@ -126,7 +126,7 @@ module _ (g : Form) (start : ℕ) (recs file : List ℕ) where
   module _ (tests : Tests) (passes : Passes tests) where
     -- The tree t is there, its root the node at a and its first record record r.
     abbrev Placed : (d : ℕ) → Tree d → ℕ → ℕ → Type 0
-    Placed d t a r = Sound source tests d t a × (treeBytes source d t a ≡ rows g start recs r (size d t))
+    Placed d t a r = Sound source tests d t a × (treeBytes source d t a ≡ recordRange g start recs r (size d t))
 
     -- The children of the node at a with n records.
     module _ (d a n : ℕ) (each : (t : Tree d) (j r : ℕ) → Imaged d t j r → Placed d t (address g start (j + below d t)) r) where
@@ -136,7 +136,7 @@ module _ (g : Form) (start : ℕ) (recs file : List ℕ) where
 
       child-sound : (t : Tree d) (i j r : ℕ) → Imaged d t j r → Stand file (pointerPlace source d a n i) (pointer g start recs d t j)
           → ChildSound source tests d a n (Sound source tests d) t i
-          × (treeBytes source d t (childAddress source (pointerPlace source d a n i)) ≡ rows g start recs r (size d t))
+          × (treeBytes source d t (childAddress source (pointerPlace source d a n i)) ≡ recordRange g start recs r (size d t))
       child-sound t i j r m h =
           let p = pointerPlace source d a n i in
           let f = everywhere-root (Fit g) d t (m .fits) in
@@ -147,33 +147,33 @@ module _ (g : Form) (start : ℕ) (recs file : List ℕ) where
       children-sound : (ts : Kids (Tree d)) (i j r : ℕ) → AllKids (Everywhere (Fit g) d) ts
           → Room g start recs r (sumKids (size d) ts + between ts) → address g start (j + sumKids (nodes d) ts) < 256 ^ g .ow
           → Stand file (address g start j) (kidsImage g start recs d (image g start recs d) ts j r)
-          → Stand file (a + 6 + i * g .rs) (ownRows g start recs d ts r) → Stand file (pointerPlace source d a n i) (pointers g start recs d ts j)
+          → Stand file (a + 6 + i * g .rs) (ownRecords g start recs d ts r) → Stand file (pointerPlace source d a n i) (pointers g start recs d ts j)
           → ChildrenSound source tests d a n (Sound source tests d) ts i
-          × (childrenBytes source d a n (treeBytes source d) ts i ≡ rows g start recs r (sumKids (size d) ts + between ts))
-      unfolding sumKids between nodes kidsImage ownRows pointers childrenBytes
+          × (childrenBytes source d a n (treeBytes source d) ts i ≡ recordRange g start recs r (sumKids (size d) ts + between ts))
+      unfolding sumKids between nodes kidsImage ownRecords pointers childrenBytes
       children-sound (last t) i j r f room l im own ps =
           rw add-zero
           (child-sound t i j r (record { fits = f; room = omega arith; reach = address-before j _ _ (omega arith) l; stands = im }) ps)
       children-sound (more t ts) i j r f room l im own ps =
-          let len = length-rows g start recs (r + size d t) 1 (omega arith) in
+          let len = length-range g start recs (r + size d t) 1 (omega arith) in
           let im2 = stand-split file (address g start j) (image g start recs d t j r) _ (address g start (j + nodes d t)) (rw (length-image g start recs d t j r (f .0) (omega arith)) (address-add j (nodes d t))) im in
-          let own2 = stand-split file (a + 6 + i * g .rs) (rows g start recs (r + size d t) 1) _ (a + 6 + (i + 1) * g .rs) (omega arith) own in
+          let own2 = stand-split file (a + 6 + i * g .rs) (recordRange g start recs (r + size d t) 1) _ (a + 6 + (i + 1) * g .rs) (omega arith) own in
           let ps2 = stand-split file (pointerPlace source d a n i) (pointer g start recs d t j) _ (pointerPlace source d a n (i + 1)) (rw length-pointer (place-next i)) ps in
           let first = child-sound t i j r (record { fits = f .0; room = omega arith; reach = address-before j _ _ (omega arith) l; stands = im2 .0 }) (ps2 .0) in
           let others = children-sound ts (i + 1) (j + nodes d t) (r + size d t + 1) (f .1) (omega arith) (rw add-assoc l) (im2 .1) (own2 .1) (ps2 .1) in
-          ((first .0, others .0), rw (first .1, rw (len, one-mul) at (own2 .0), others .1, rows-add, rows-add, between-one))
+          ((first .0, others .0), rw (first .1, rw (len, one-mul) at (own2 .0), others .1, range-add, range-add, between-one))
 
     pub image-sound : (d : ℕ) (t : Tree d) (j r : ℕ) → Imaged d t j r → Placed d t (address g start (j + below d t)) r
     unfolding image below size treeBytes padded leafBytes internalBytes nodes pointerPlace
     image-sound zero n j r m =
         let st = stand-left file (address g start j) (summed (leafBytes g start recs n r)) _ (m .stands) in
-        let s = node-stands leafSignature (rows g start recs r n) (address g start j) refl st in
-        let len = length-rows g start recs r n (m .room) in
+        let s = node-stands leafSignature (recordRange g start recs r n) (address g start j) refl st in
+        let len = length-range g start recs r n (m .room) in
         rw add-zero
         (record { passes = passes .leaf n r (address g start j) (m .room) st; there = omega arith }, rw len at (s .goes-on))
     image-sound (suc d) ts j r m =
         let a = address g start (j + sumKids (nodes d) ts) in
-        let own = ownRows g start recs d ts r in
+        let own = ownRecords g start recs d ts r in
         let ps = pointers g start recs d ts j in
         let im2 = stand-split file (address g start j) (kidsImage g start recs d (image g start recs d) ts j r) (padded (g .ns) (internalBytes g start recs d ts j r)) a
         (rw (length-children g start recs d (length-image g start recs d) ts j r (m .fits .1) (m .room)) (address-add j (sumKids (nodes d) ts))) (m .stands) in
@@ -188,7 +188,7 @@ module _ (g : Form) (start : ℕ) (recs file : List ℕ) where
     -- So the walk from the root puts out the records, and counts them and the nodes.
     pub image-walks : (d : ℕ) (t : Tree d) (j r : ℕ) → Imaged d t j r → (c : Counts) (o : List ℕ) → (c .records + size d t) * g .rs ≤ length o
         → nodeRun source tests d (address g start (j + below d t)) (count d t) c o
-        ≡ fine (sum c (treeTally d t)) (stored o (c .records * g .rs) (rows g start recs r (size d t)))
+        ≡ fine (sum c (treeTally d t)) (stored o (c .records * g .rs) (recordRange g start recs r (size d t)))
     image-walks d t j r m c o fits =
         let p = image-sound d t j r m in
         rw (puts-node source tests d t (address g start (j + below d t)) (p .0) .runs c o fits, p .1)

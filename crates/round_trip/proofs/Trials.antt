@@ -11,11 +11,11 @@ use Rattle.numbers.specs.Places.{stored, over}
 use Rattle.refusal.specs.Answer.{cells}
 use Rattle.node_info.specs.Capacity.{leafCapacity, countWidth, pointerSize, internalCapacity, subtreeCapacity, totalWidth, nodeCapacity}
 use Rattle.plan.specs.Tree.{sumKids, between, count, size, below, nodes, leaves}
-use Rattle.plan.specs.Planned.{taken, dealt, children, kidsOf, planTree, anyOf, thin, leastLevel, planDepth, emptyLevel, planned, planFigures, planAnswer}
-use Rattle.format.specs.Bytes.{summed, padded, pointerBytes, address, rows, leafBytes, pointer, pointers, ownRows, internalBytes, kidsImage, image, headerBytes}
+use Rattle.plan.specs.Planned.{taken, distributed, children, kidsOf, planTree, anyOf, thin, leastLevel, planDepth, emptyLevel, planned, planFigures, planAnswer}
+use Rattle.format.specs.Bytes.{summed, padded, pointerBytes, address, recordRange, leafBytes, pointer, pointers, ownRecords, internalBytes, kidsImage, image, headerBytes}
 use Rattle.format.specs.Request.{Request, formOf, nodesOf, imageOf, rootOf, rootRecordsOf, headerOf}
 use Rattle.write_checks.specs.Writing.{writeAnswer, written, headerExit, imageExit}
-use Rattle.btree_v2_collect.specs.Walk.{putRecord, putRecords, leafRun, childRun, innerRun, childrenRun, nodeRun}
+use Rattle.btree_v2_collect.specs.Walk.{putRecord, putRecords, leafRun, childRun, ownRecordRun, childrenRun, nodeRun}
 use Rattle.btree_v2_internal.specs.Internal.{pointerWidth, pointerPlace, childAddress, childRecords, internalBody, internalTest}
 use Rattle.read_checks.specs.Tests.{same, frontTest, checksumTest}
 use Rattle.btree_v2_header.specs.Header.{Header, headerAt, parsed}
@@ -229,10 +229,10 @@ disagreeing i (t ∷ ts) = let rest = disagreeing (i + 1) ts in pick (same (t .f
 
 agree : disagreeing 0 (writes ++ (reads ++ collects)) ≡ []
 unfolding computed le unle num leastFrom width fieldSize stored cells leafCapacity countWidth pointerSize internalCapacity subtreeCapacity
-    totalWidth nodeCapacity sumKids between count size below nodes leaves taken dealt children kidsOf planTree anyOf thin
-    leastLevel planDepth emptyLevel planned planFigures planAnswer summed padded pointerBytes address rows leafBytes pointer pointers ownRows internalBytes
+    totalWidth nodeCapacity sumKids between count size below nodes leaves taken distributed children kidsOf planTree anyOf thin
+    leastLevel planDepth emptyLevel planned planFigures planAnswer summed padded pointerBytes address recordRange leafBytes pointer pointers ownRecords internalBytes
     kidsImage image headerBytes over formOf nodesOf imageOf rootOf rootRecordsOf headerOf writeAnswer written headerExit imageExit putRecord
-    putRecords pointerWidth pointerPlace childAddress childRecords leafRun childRun innerRun childrenRun nodeRun same frontTest checksumTest headerAt
+    putRecords pointerWidth pointerPlace childAddress childRecords leafRun childRun ownRecordRun childrenRun nodeRun same frontTest checksumTest headerAt
     parsed leafBody leafTest internalBody internalTest collectTests sourceOf collected runCells dump dumps rampFrom ramp lent writing summing refusing reading
     collecting request header threeHeader threeImage fourHeader fourImage eightHeader eightImage eightFile twoHeader twoImage noneHeader
     noneImage writes reads collects disagreeing

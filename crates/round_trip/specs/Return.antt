@@ -40,6 +40,6 @@ pub record Returned (q : Request) (recs file : List ℕ) (o : ℕ) (out : List �
   pub output : collected file (headerWritten q) (q .ow) out ≡ fine counts (recs ++ drop (q .n * q .rs) out)
   pub records : counts .records ≡ q .n
   pub leavesPlanned : counts .leaves ≡ leaves (depthOf q) (planned (q .n) (q .rs) (q .ns) (q .ow))
-  pub oneMore : counts .leaves ≡ counts .inner + 1
+  pub oneMore : counts .leaves ≡ counts .internalRecords + 1
   pub allNodes : counts .leaves + counts .internals ≡ nodesOf q
   pub atMost : nodesOf q ≤ q .n

@@ -74,7 +74,7 @@ pub record Holds (q : Request) (p : BTreeV2Plan) (file : List ℕ) (place : ℕ)
 -- internal nodes; leaves and internal nodes together the nodes answered, at most N.
 pub record NodesCounted (q : Request) (p : BTreeV2Plan) (t : Tally) : Type 0 where
   pub leaves : t .leaves ≡ p .leaves
-  pub oneMore : t .leaves ≡ t .inner + 1
+  pub oneMore : t .leaves ≡ t .«internal_records» + 1
   pub allNodes : t .leaves + t .internals ≡ p .nodes
   pub atMost : p .nodes ≤ q .n
 

@@ -36,7 +36,7 @@ fn collect_parsed(
                 records: 0,
                 leaves: 0,
                 internals: 0,
-                inner: 0,
+                internal_records: 0,
             },
         },
     }

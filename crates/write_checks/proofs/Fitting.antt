@@ -87,9 +87,9 @@ module _ (q : Request) where
     unfolding rootRecordsOf
     root-some = everywhere-root (λ u t. 1 ≤ count u t) (depthOf q) tree filled
 
-    pub root-held : rootRecordsOf q ≤ leafCapacity (q .ns) (q .rs)
+    pub root-saturated : rootRecordsOf q ≤ leafCapacity (q .ns) (q .rs)
     unfolding rootRecordsOf
-    root-held = le-trans (everywhere-root (Held plan) (depthOf q) tree within .0) (node-le-leaf (q .ns) (q .rs) (q .ow) (positive plan) (depthOf q))
+    root-saturated = le-trans (everywhere-root (Held plan) (depthOf q) tree within .0) (node-le-leaf (q .ns) (q .rs) (q .ow) (positive plan) (depthOf q))
 
     pub deep : depthOf q ≤ 32
     deep = depth-le (q .n) (q .rs) (q .ns) (q .ow)

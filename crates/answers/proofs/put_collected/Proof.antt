@@ -9,4 +9,4 @@ put-collected-spec =
     tie.close
     (tie.spec
     (λ c κs. search needs)
-    (λ c. collected-put (c .before .before .before .args .collected) (c .before .before .told .ensures)))
+    (λ c. collected-put (c .before .before .before .args .collected) (c .before .before .code .ensures)))

@@ -17,4 +17,4 @@ put-header-spec =
     (λ c. search needs)
     (λ c κs. search needs)
     (λ c. header-put (c .before .before .before .before .before .before .before .parsed .given .1))
-    (λ c. header-refused _ (c .before .before .before .parsed2 .given .1) (c .before .told .ensures)))
+    (λ c. header-refused _ (c .before .before .before .parsed2 .given .1) (c .before .code .ensures)))

@@ -13,4 +13,4 @@ put-plan-spec =
     (λ c. search needs)
     (λ c κs. search needs)
     (λ c. plan-put (c .before .before .before .planned .given .1))
-    (λ c. plan-refused _ (c .before .before .before .planned2 .given .1) (c .before .told .ensures)))
+    (λ c. plan-refused _ (c .before .before .before .planned2 .given .1) (c .before .code .ensures)))

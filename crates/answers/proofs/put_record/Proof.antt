@@ -12,4 +12,4 @@ put-record-spec =
     (λ c. search needs)
     (λ c κs. search needs)
     (λ c. record-put (c .before .before .copied .given .1))
-    (λ c. record-refused _ (c .before .before .before .copied2 .given .1) (c .before .told .ensures)))
+    (λ c. record-refused _ (c .before .before .before .copied2 .given .1) (c .before .code .ensures)))

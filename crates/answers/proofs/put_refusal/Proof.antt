@@ -20,5 +20,5 @@ put-refusal-spec =
     (λ c. search needs)
     (λ c. search needs)
     (λ c κs. search needs)
-    (λ c. let e = c .before .before .before .before .before .before in put-length (refusalOf (e .args .cause)) (refusal-put (e .args .cause) (e .args .answer .now) (e .pre) (c .before .before .before .before .told .ensures) (c .before .before .clear .ensures)))
-    (λ c. let e = c .before .before .before .before .before .before in refusal-put (e .args .cause) (e .args .answer .now) (e .pre) (c .before .before .before .before .told .ensures) (c .before .before .clear .ensures)))
+    (λ c. let e = c .before .before .before .before .before .before in put-length (refusalOf (e .args .cause)) (refusal-put (e .args .cause) (e .args .answer .now) (e .pre) (c .before .before .before .before .code .ensures) (c .before .before .clear .ensures)))
+    (λ c. let e = c .before .before .before .before .before .before in refusal-put (e .args .cause) (e .args .answer .now) (e .pre) (c .before .before .before .before .code .ensures) (c .before .before .clear .ensures)))

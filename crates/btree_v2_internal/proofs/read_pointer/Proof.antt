@@ -1,6 +1,6 @@
 -- `read_pointer` reads the fields at the pointer.
 use Rattle.btree_v2_internal.proofs.Nodes.{pointers-fit, before-fits, pointer-is}
-use Rattle.read_checks.proofs.Nodes.{product-fits, rows-end-fits}
+use Rattle.read_checks.proofs.Nodes.{product-fits, records-end-fits}
 use borrow.Author.Needs.{needs}
 use native.Mathlib.Omega.{arith}
 use Rattle.btree_v2_internal.proofs.read_pointer.Statement.{statement}
@@ -13,7 +13,7 @@ read-pointer-spec =
     (λ c. search needs)
     (λ c. search needs)
     (λ c. search product-fits)
-    (λ c. search rows-end-fits)
+    (λ c. search records-end-fits)
     (λ c κs. search needs)
     (λ c. pointers-fit _ (c .pointer-size .ensures .1) _ (omega arith))
     (λ c. search before-fits)

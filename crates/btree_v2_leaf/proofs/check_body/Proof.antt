@@ -1,7 +1,7 @@
 -- `check_body` tests the records, then the checksum.
-use Rattle.btree_v2_leaf.proofs.Leaves.{rows-fit, body-short, body-unchecked, body-checked}
+use Rattle.btree_v2_leaf.proofs.Leaves.{records-fit, body-short, body-unchecked, body-checked}
 use Rattle.read_checks.proofs.Checks.{bytes-there}
-use Rattle.read_checks.proofs.Nodes.{product-fits, rows-end-fits}
+use Rattle.read_checks.proofs.Nodes.{product-fits, records-end-fits}
 use borrow.Author.Needs.{needs}
 use Rattle.btree_v2_leaf.proofs.check_body.Statement.{statement}
 use Rattle.btree_v2_leaf.proofs.check_body.Tie as tie
@@ -11,12 +11,12 @@ check-body-spec =
     tie.close
     (tie.spec
     (λ c. search product-fits)
-    (λ c. search rows-end-fits)
+    (λ c. search records-end-fits)
     (λ c κs. search needs)
     (λ c. search needs)
     (λ c. search needs)
     (λ c. let a = c .before .before .before .before .args in body-short (a .file .now) (a .record-size) (a .address) (a .count) (c .before .before .ensure-len .result) (c .before .before .ensure-len .ensures) _ (c .enum-told2 .given .1))
-    (λ c. search (rows-fit, bytes-there))
+    (λ c. search (records-fit, bytes-there))
     (λ c. search bytes-there)
     (λ c. let a = c .before .before .before .before .before .args in body-unchecked (a .file .now) (a .record-size) (a .address) (a .count) (c .if1 .taken) (search bytes-there))
     (λ c κs. search needs)

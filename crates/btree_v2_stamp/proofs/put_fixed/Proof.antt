@@ -19,9 +19,9 @@ put-fixed-spec =
     let merge = c .before .before in
     let split = merge .before .before .before .before in
     let depth = split .before .before .before .before in
-    let row = depth .before .before .before .before in
-    let node = row .before .before .before .before in
+    let nextRecord = depth .before .before .before .before in
+    let node = nextRecord .before .before .before .before in
     let front = node .before .before .before .before in
     fixed-put _ _ _ _ _ _ _ _ _ (front .before .before .before .pre)
-    (front .put-front .ensures) (node .write-le .ensures .0) (row .write-le2 .ensures .0)
+    (front .put-front .ensures) (node .write-le .ensures .0) (nextRecord .write-le2 .ensures .0)
     (depth .write-le3 .ensures .0) (split .write-le4 .ensures .0) (merge .write-le5 .ensures .0)))

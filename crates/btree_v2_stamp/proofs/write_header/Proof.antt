@@ -23,8 +23,8 @@ write-header-spec =
     (λ c κs. search needs)
     (λ c. search needs)
     (λ c.
-    let sealed = c .before .before in
-    let total = sealed .before .before .before .before in
+    let stamped = c .before .before in
+    let total = stamped .before .before .before .before in
     let records = total .before .before .before .before in
     let address = records .before .before .before .before in
     let fixed = address .before .before .before .before in
@@ -33,4 +33,4 @@ write-header-spec =
     header-put _ _ _ _ _ _ _ _ _ _ _ _
     (header-room _ _ _ _ _ (sizes .saturating-add .ensures) (tested .before .saturating-add2 .ensures) (omega arith) (tested .if1 .left))
     (fixed .put-fixed .ensures) (address .write-le .ensures .0)
-    (records .write-le2 .ensures .0) (total .write-le3 .ensures .0) (sealed .seal .ensures)))
+    (records .write-le2 .ensures .0) (total .write-le3 .ensures .0) (stamped .stamp .ensures)))

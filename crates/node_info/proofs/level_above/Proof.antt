@@ -1,6 +1,6 @@
--- `level_above` computes M, C, held at 2^64 - 1, and its width.
+-- `level_above` computes M, C, saturated at 2^64 - 1, and its width.
 use Rattle.node_info.proofs.Growing.{one-more, level-is}
-use Rattle.numbers.proofs.Numbers.{held-step}
+use Rattle.numbers.proofs.Numbers.{saturated-step}
 use borrow.Author.Needs.{needs}
 use Rattle.node_info.proofs.level_above.Statement.{statement}
 use Rattle.node_info.proofs.level_above.Tie as tie
@@ -16,4 +16,4 @@ level-above-spec =
     (λ c κs. search needs)
     (λ c κs. search needs)
     (λ c κs. search needs)
-    (λ c. level-is _ _ _ _ _ _ _ _ _ (c .before .before .before .max-records-internal .ensures) (held-step _ _ _ _ _ (c .before .before .saturating-mul .ensures) (c .before .saturating-add .ensures)) (c .bytes-for-max-records .ensures)))
+    (λ c. level-is _ _ _ _ _ _ _ _ _ (c .before .before .before .max-records-internal .ensures) (saturated-step _ _ _ _ _ (c .before .before .saturating-mul .ensures) (c .before .saturating-add .ensures)) (c .bytes-for-max-records .ensures)))

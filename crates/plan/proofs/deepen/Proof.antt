@@ -7,10 +7,10 @@ use Rattle.plan.proofs.deepen.Statement.{statement}
 use Rattle.plan.proofs.deepen.Tie as tie
 
 abbrev Inv-loop : tie.InvT-loop
-Inv-loop n rs ns ow info₀ wide u₀ info u = Sought n rs ns ow wide info u
+Inv-loop n rs ns ow info₀ countSize u₀ info u = Sought n rs ns ow countSize info u
 
 abbrev μ-loop : tie.MeasureT-loop
-μ-loop n rs ns ow info₀ wide u₀ info u = 24 - u
+μ-loop n rs ns ow info₀ countSize u₀ info u = 24 - u
 
 pub deepen-spec : {M : Type 1} → statement M
 deepen-spec =

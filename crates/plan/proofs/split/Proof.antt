@@ -1,4 +1,4 @@
--- What is dealt, by the number of children.
+-- What is distributed, by the number of children.
 use Rattle.plan.proofs.Counting.{split-fits}
 use borrow.Author.Needs.{needs}
 use Rattle.plan.proofs.split.Statement.{statement}

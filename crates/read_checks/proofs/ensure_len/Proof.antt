@@ -1,4 +1,4 @@
--- `ensure_len` compares with the held end.
+-- `ensure_len` compares with the saturated end.
 use Rattle.read_checks.proofs.Checks.{len-short, len-enough}
 use borrow.Author.Needs.{needs}
 use native.Mathlib.Omega.{arith}

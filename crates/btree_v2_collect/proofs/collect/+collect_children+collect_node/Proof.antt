@@ -19,7 +19,7 @@ use Rattle.btree_v2_collect.proofs.collect.check_node.Reads as check-no
 use Rattle.btree_v2_collect.proofs.collect.child_of.Reads as child-of-reads
 use Rattle.btree_v2_collect.proofs.collect.collect_leaf.Reads as collect-leaf-reads
 use Rattle.btree_v2_collect.proofs.collect.one_internal.Reads as one-internal-reads
-use Rattle.btree_v2_collect.proofs.collect.put_inner.Reads as put-inner-reads
+use Rattle.btree_v2_collect.proofs.collect.put_own_record.Reads as own-record-reads
 use Rattle.btree_v2_collect.proofs.collect.+collect_children+collect_node.{statement}
 use Rattle.btree_v2_collect.proofs.collect.+collect_children+collect_node.Tie.{close}
 
@@ -46,7 +46,7 @@ collect-node-below t = and 4 collect-node-kinds.ps (falls 4 collect-node-kinds.p
 module _ (t : ℕ) where
   abbrev claims : collect-children-lts.Claims
   claims =
-      (child-of-reads.Asked, child-of-reads.Learnt, collect-node-below t, collect-node.Post, collect-children-below t, collect-children.Post, put-inner-reads.Asked, put-inner-reads.Learnt)
+      (child-of-reads.Asked, child-of-reads.Learnt, collect-node-below t, collect-node.Post, collect-children-below t, collect-children.Post, own-record-reads.Asked, own-record-reads.Learnt)
 
   abbrev Start : Type 0
   Start = collect-children-lts.Start claims (collect-children-at t) collect-children.Post
@@ -89,7 +89,7 @@ module _ (t : ℕ) where
   abbrev put : (c : AfterRecord)
       → let x = entry (first-of c) .args in
       RecordPut (x .file .now) (x .sizes) (testsAt (x .file .now) (x .sizes)) (x .under) (x .address) (x .records) (x .i) (x .left) (x .tally .now) (x .output .now) (x .total-sizes .now)
-  put c = record-put (first (first-of c)) _ _ _ _ (c .before .before .before .before .put-inner .ensures) refl (c .enum-told5 .given .1)
+  put c = record-put (first (first-of c)) _ _ _ _ (c .before .before .before .before .put-own-record .ensures) refl (c .enum-told5 .given .1)
 
 pub +collect-children+collect-node-spec : {M : Type 1} → statement M
 +collect-children+collect-node-spec =
@@ -119,7 +119,7 @@ pub +collect-children+collect-node-spec : {M : Type 1} → statement M
     (λ c. search needs)
     (λ c. search needs)
     (λ c. search needs)
-    (λ c. record-stops (first t (c .before .before .before .before .before .before .before)) _ _ _ _ (c .before .before .before .before .put-inner .ensures) refl _ (c .enum-told6 .given .1))
+    (λ c. record-stops (first t (c .before .before .before .before .before .before .before)) _ _ _ _ (c .before .before .before .before .put-own-record .ensures) refl _ (c .enum-told6 .given .1))
     (λ c. search needs)
     (λ c. search needs)
     (λ c κs. let p = put t (c .before .before) in (second-falls p (entry t (first-of t (c .before .before)) .pre .0), second-asked p))

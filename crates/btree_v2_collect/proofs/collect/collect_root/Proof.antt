@@ -18,6 +18,6 @@ collect-root-spec =
     (λ c. let table = c .before .before .before .before .before .before .before .before .before .before .before in
     let ok = c .tally-of .ok in
     let small : Small (c .tally-of .result) =
-    record { records = omega (arith, ok); leaves = omega (arith, ok); internals = omega (arith, ok); inner = omega (arith, ok) }
+    record { records = omega (arith, ok); leaves = omega (arith, ok); internals = omega (arith, ok); internalRecords = omega (arith, ok) }
     in
     root-walked (table .before .before .before .pre) _ _ (table .compute .ensures .1) _ _ _ _ _ _ _ (c .before .before .before .before .collect-node .ensures) refl refl _ (c .tally-of .ensures) small))

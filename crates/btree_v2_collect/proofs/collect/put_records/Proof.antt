@@ -1,5 +1,5 @@
 -- `put_records` puts out as many records as fit.
-use Rattle.btree_v2_collect.proofs.Putting.{part-there, rows-few, put-all, put-part}
+use Rattle.btree_v2_collect.proofs.Putting.{part-there, records-few, put-all, put-part}
 use borrow.Author.Needs.{needs}
 use Rattle.btree_v2_collect.proofs.collect.put_records.Statement.{statement}
 use Rattle.btree_v2_collect.proofs.collect.put_records.Tie as tie
@@ -21,7 +21,7 @@ put-records-spec =
     (λ c. search part-there)
     (λ c κs. search needs)
     (λ c. search needs)
-    (λ c. search rows-few)
+    (λ c. search records-few)
     (λ c. search needs)
     (λ c. search needs)
     (λ c. search needs)

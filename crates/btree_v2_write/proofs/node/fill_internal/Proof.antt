@@ -1,5 +1,5 @@
 -- Front, own records, pointers, checksum and zeros, each after the one before.
-use Rattle.btree_v2_write.proofs.Internal.{inner-filled}
+use Rattle.btree_v2_write.proofs.Internal.{internal-filled}
 use borrow.Author.Needs.{needs}
 use Rattle.btree_v2_write.proofs.node.fill_internal.Statement.{statement}
 use Rattle.btree_v2_write.proofs.node.fill_internal.Tie as tie
@@ -13,4 +13,4 @@ fill-internal-spec =
     (λ c κs. search needs)
     (λ c κs. search needs)
     (λ c. search needs)
-    (λ c. search inner-filled))
+    (λ c. search internal-filled))

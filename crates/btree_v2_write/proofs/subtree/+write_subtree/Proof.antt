@@ -9,15 +9,15 @@ use Rattle.btree_v2_write.proofs.subtree.+write_subtree.Lts-write_subtr
 use Rattle.btree_v2_write.proofs.node.share.Reads as share-reads
 use Rattle.btree_v2_write.proofs.node.write_internal.Reads as write-internal-reads
 use Rattle.btree_v2_write.proofs.node.write_leaf.Reads as write-leaf-reads
-use Rattle.plan.proofs.deal.Reads as deal-reads
+use Rattle.plan.proofs.distribute.Reads as distribute-reads
 use Rattle.btree_v2_write.proofs.subtree.+write_subtree.{statement}
 use Rattle.btree_v2_write.proofs.subtree.+write_subtree.Tie.{close}
 use native.Mathlib.Omega.{arith}
 use lib.ListN.{length}
 use borrow.Author.Needs.{needs}
-use Rattle.btree_v2_write.proofs.Subtrees.{leaf-room, leaf-fits, leaf-done, Dealt, base-few, kept-small, width-small, node-fits, row-fits, share-few, first-asked}
-use Rattle.btree_v2_write.proofs.Subtrees.{first-within, first-next-fits, loop-start, KidsLeft, kid-ready, kid-row, kid-next, loop-turn}
-use Rattle.btree_v2_write.proofs.Subtrees.{row-is, next-is, next-least, root-fits, root-room, root-done}
+use Rattle.btree_v2_write.proofs.Subtrees.{leaf-room, leaf-fits, leaf-done, Distribution, base-few, kept-small, width-small, node-fits, record-fits, share-few, first-asked}
+use Rattle.btree_v2_write.proofs.Subtrees.{first-within, first-next-fits, loop-start, KidsLeft, kid-ready, kid-record, kid-next, loop-turn}
+use Rattle.btree_v2_write.proofs.Subtrees.{record-is, next-is, next-least, root-fits, root-room, root-done}
 
 abbrev μ-write-subtree : Measures 4 write-subtree-kinds.ps ℕ
 μ-write-subtree κs a = a .1 .1 .1 .0
@@ -29,30 +29,30 @@ abbrev write-subtree-below : ℕ → In 4 write-subtree-kinds.ps
 write-subtree-below t = and 4 write-subtree-kinds.ps (falls 4 write-subtree-kinds.ps _<_ μ-write-subtree t) write-subtree.Pre
 
 abbrev Inv-loop : write-subtree-lts.InvT-loop
-Inv-loop o₁ l recs depth n j r most wide under dealt k b x first large small₁ next₁ row₁ i₁ o small next row i =
-    KidsLeft l most wide recs o₁ depth n j r k b x large o small next row i
+Inv-loop o₁ l recs depth n j r most totals under distributed k b x first large small₁ next₁ row₁ i₁ o small next nextRecord i =
+    KidsLeft l most totals recs o₁ depth n j r k b x large o small next nextRecord i
 
 abbrev μ-loop : write-subtree-lts.MeasureT-loop
-μ-loop o₁ l recs depth n j r most wide under dealt k b x first large small₁ next₁ row₁ i₁ o small next row i = k + 1 - i
+μ-loop o₁ l recs depth n j r most totals under distributed k b x first large small₁ next₁ row₁ i₁ o small next nextRecord i = k + 1 - i
 
 abbrev claims : ℕ → write-subtree-lts.Claims
 claims t =
-    (write-leaf-reads.Asked, write-leaf-reads.Learnt, deal-reads.Asked, deal-reads.Learnt, share-reads.Asked, share-reads.Learnt, write-subtree-below t, write-subtree.Post, write-internal-reads.Asked, write-internal-reads.Learnt)
+    (write-leaf-reads.Asked, write-leaf-reads.Learnt, distribute-reads.Asked, distribute-reads.Learnt, share-reads.Asked, share-reads.Learnt, write-subtree-below t, write-subtree.Post, write-internal-reads.Asked, write-internal-reads.Learnt)
 
--- What is known once the records are dealt.
+-- What is known once the records are distributed.
 module _ (t : ℕ) where
   abbrev AfterDeal : Type 0
-  AfterDeal = write-subtree-lts.After-deal (claims t) (write-subtree-at t) write-subtree.Post Inv-loop μ-loop
+  AfterDeal = write-subtree-lts.After-distribute (claims t) (write-subtree-at t) write-subtree.Post Inv-loop μ-loop
 
-  abbrev DealtAt : AfterDeal → Type 0
-  DealtAt c =
+  abbrev DistributedAt : AfterDeal → Type 0
+  DistributedAt c =
       let a = c .before .before .before .before .before .args in
-      let y = c .deal .result in
-      Dealt (a .layout) (a .most .now) (a .wide .now) (length (a .records .now)) (length (a .image .now)) (a .depth) (a .n) (a .j) (a .r) (y .kept) (y .base) (y .extra)
+      let y = c .distribute .result in
+      Distribution (a .layout) (a .most .now) (a .total-sizes .now) (length (a .records .now)) (length (a .image .now)) (a .depth) (a .n) (a .j) (a .r) (y .kept) (y .base) (y .extra)
 
-  dealt : (c : AfterDeal) → DealtAt c
-  dealt c =
-      let kept = c .deal .ensures in
+  distributed : (c : AfterDeal) → DistributedAt c
+  distributed c =
+      let kept = c .distribute .ensures in
       record { given = c .before .before .before .before .before .pre .1; pos = c .before .before .if1 .left; kept = kept .0; base = kept .1; extra = kept .2 }
 
 pub +write-subtree-spec : {M : Type 1} → statement M
@@ -76,27 +76,27 @@ pub +write-subtree-spec : {M : Type 1} → statement M
     (λ c κs. (omega arith, search first-asked))
     (λ c.
     let begun = c .before .before .before in
-    let known = dealt t (begun .before .before .before) in
+    let known = distributed t (begun .before .before .before) in
     first-next-fits known (begun .before .before .share .ensures) (begun .write-subtree .ensures))
     (λ c.
     let begun = c .before .before .before in
-    let known = dealt t (begun .before .before .before) in
-    row-fits known _ (omega (arith, first-within known (begun .before .before .share .ensures) (begun .write-subtree .ensures))))
+    let known = distributed t (begun .before .before .before) in
+    record-fits known _ (omega (arith, first-within known (begun .before .before .share .ensures) (begun .write-subtree .ensures))))
     (λ c.
     let begun = c .before .before .before in
-    let known = dealt t (begun .before .before .before) in
-    row-fits known _ (omega (arith, first-within known (begun .before .before .share .ensures) (begun .write-subtree .ensures))))
+    let known = distributed t (begun .before .before .before) in
+    record-fits known _ (omega (arith, first-within known (begun .before .before .share .ensures) (begun .write-subtree .ensures))))
     (λ c.
     let begun = c .before .before .before in
-    let known = dealt t (begun .before .before .before) in
+    let known = distributed t (begun .before .before .before) in
     let start = loop-start known (begun .before .before .share .ensures) (begun .write-subtree .ensures) (record { records = 0; total = 0; nodes = 0 }) (begun .write-subtree .kept .0) in
     record {
-      dealt = start .dealt;
+      distributed = start .distributed;
       of-first = start .of-first;
       of-last = start .of-last;
       within = start .within;
       reached = start .reached;
-      rows = start .rows;
+      inList = start .inList;
       long = start .long;
       left = start .left;
     })
@@ -106,18 +106,18 @@ pub +write-subtree-spec : {M : Type 1} → statement M
     let wrote = c .before .before .before .write-subtree2 .ensures in
     let turn = c .before .before .before .before .before in
     let inv = turn .before .before .loop .inv in
-    node-fits (inv .dealt) _ (kid-next inv (turn .before .loop-test .taken) (turn .share2 .ensures) wrote))
+    node-fits (inv .distributed) _ (kid-next inv (turn .before .loop-test .taken) (turn .share2 .ensures) wrote))
     (λ c.
     let wrote = c .before .before .before .write-subtree2 .ensures in
     let turn = c .before .before .before .before .before in
     let inv = turn .before .before .loop .inv in
-    row-fits (inv .dealt) _ (omega (arith, kid-row inv (turn .before .loop-test .taken) (turn .share2 .ensures) wrote)))
+    record-fits (inv .distributed) _ (omega (arith, kid-record inv (turn .before .loop-test .taken) (turn .share2 .ensures) wrote)))
     (λ c.
     let wrote = c .before .before .before .write-subtree2 .ensures in
     let turn = c .before .before .before .before .before in
     let inv = turn .before .before .loop .inv in
-    row-fits (inv .dealt) _ (omega (arith, kid-row inv (turn .before .loop-test .taken) (turn .share2 .ensures) wrote)))
-    (λ c. omega (arith, kept-small (c .before .before .before .before .before .before .before .loop .inv .dealt)))
+    record-fits (inv .distributed) _ (omega (arith, kid-record inv (turn .before .loop-test .taken) (turn .share2 .ensures) wrote)))
+    (λ c. omega (arith, kept-small (c .before .before .before .before .before .before .before .loop .inv .distributed)))
     (λ c. search needs)
     (λ c.
     let wrote = c .before .before .before .write-subtree2 .ensures in
@@ -125,7 +125,7 @@ pub +write-subtree-spec : {M : Type 1} → statement M
     let inv = turn .before .before .loop .inv in
     loop-turn inv (turn .before .loop-test .taken) (turn .share2 .ensures) wrote)
     (λ c. search needs)
-    (λ c. width-small (c .before .before .loop .inv .dealt))
+    (λ c. width-small (c .before .before .loop .inv .distributed))
     (λ c κs.
     let ended = c .before .before in
     let inv = ended .before .loop .inv in
@@ -133,15 +133,15 @@ pub +write-subtree-spec : {M : Type 1} → statement M
     (λ c.
     let ended = c .before .before .before .before .before in
     let inv = ended .before .loop .inv in
-    omega (arith, row-is inv (ended .loop-test .left)))
+    omega (arith, record-is inv (ended .loop-test .left)))
     (λ c.
     let ended = c .before .before .before .before .before in
     let inv = ended .before .loop .inv in
-    omega (arith, row-is inv (ended .loop-test .left)))
+    omega (arith, record-is inv (ended .loop-test .left)))
     (λ c.
     let ended = c .before .before .before .before .before in
     let inv = ended .before .loop .inv in
-    node-fits (inv .dealt) _ (omega (arith, next-is inv (ended .loop-test .left))))
+    node-fits (inv .distributed) _ (omega (arith, next-is inv (ended .loop-test .left))))
     (λ c.
     let ended = c .before .before .before .before .before in
     let inv = ended .before .loop .inv in

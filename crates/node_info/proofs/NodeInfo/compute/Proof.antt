@@ -7,10 +7,10 @@ use Rattle.node_info.proofs.NodeInfo.compute.Statement.{statement}
 use Rattle.node_info.proofs.NodeInfo.compute.Tie as tie
 
 abbrev Inv-loop : tie.InvT-loop
-Inv-loop ns rs ow depth info₀ wide u₀ info u = (u ≤ depth) × Grown ns rs ow wide info u
+Inv-loop ns rs ow depth info₀ countSize u₀ info u = (u ≤ depth) × Grown ns rs ow countSize info u
 
 abbrev μ-loop : tie.MeasureT-loop
-μ-loop ns rs ow depth info₀ wide u₀ info u = depth - u
+μ-loop ns rs ow depth info₀ countSize u₀ info u = depth - u
 
 pub compute-spec : {M : Type 1} → statement M
 compute-spec =

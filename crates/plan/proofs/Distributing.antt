@@ -8,7 +8,7 @@ use native.Mathlib.Numerals.{add-one}
 use native.Mathlib.Omega.{arith}
 use lib.ListN.{length, getD, replicate}
 use Rattle.numbers.proofs.Numbers.{lt-or-le}
-use Rattle.plan.specs.Planned.{ceilDiv, taken, dealt, children}
+use Rattle.plan.specs.Planned.{ceilDiv, taken, distributed, children}
 use Rattle.plan.proofs.Lists.{AllOf, all-of-two, all-of-at, sumOf, sumOf-two, length-two, first-run, second-run}
 
 -- The quotient, rounded up, is one rounded down.
@@ -74,7 +74,7 @@ share-extra c n = div-add-mod (n - taken c n) (taken c n + 1)
 
 pub children-is : (c n : ℕ)
     → children c n ≡ replicate (extra c n) (share c n + 1) ++ replicate (taken c n + 1 - extra c n) (share c n)
-unfolding children dealt
+unfolding children distributed
 children-is c n = refl
 
 pub length-children : (c n : ℕ) → length (children c n) ≡ taken c n + 1
@@ -89,7 +89,7 @@ pub sumOf-children : (f : ℕ → ℕ) (c n : ℕ)
     → sumOf f (children c n) ≡ extra c n * f (share c n + 1) + (taken c n + 1 - extra c n) * f (share c n)
 sumOf-children f c n = rw (children-is c n, sumOf-two)
 
--- All that is not kept is dealt.
+-- All that is not kept is distributed.
 shares : (r s b p : ℕ) → r + s ≡ p → r * (b + 1) + s * b ≡ p * b + r
 shares r s b p e = rw (← e) (omega arith)
 

@@ -1,11 +1,11 @@
 -- The rows go to their place.
 use Rattle.numbers.proofs.Copying.{part-put}
 use borrow.Author.Needs.{needs}
-use Rattle.btree_v2_write.proofs.node.put_rows.Statement.{statement}
-use Rattle.btree_v2_write.proofs.node.put_rows.Tie as tie
+use Rattle.btree_v2_write.proofs.node.put_records.Statement.{statement}
+use Rattle.btree_v2_write.proofs.node.put_records.Tie as tie
 
-pub put-rows-spec : {M : Type 1} → statement M
-put-rows-spec =
+pub put-records-spec : {M : Type 1} → statement M
+put-records-spec =
     tie.close
     (tie.spec
     (λ c. search needs)

@@ -1,18 +1,18 @@
 -- No room for the node or for the checksum, or both go after what is there.
-use Rattle.btree_v2_stamp.proofs.Frames.{seal-long, seal-small, seal-full, seal-put}
+use Rattle.btree_v2_stamp.proofs.Frames.{stamp-long, stamp-small, stamp-full, stamp-put}
 use lib.ListN.{length-take}
 use borrow.Author.Needs.{needs}
 use native.Mathlib.Omega.{arith}
-use Rattle.btree_v2_stamp.proofs.seal.Statement.{statement}
-use Rattle.btree_v2_stamp.proofs.seal.Tie as tie
+use Rattle.btree_v2_stamp.proofs.stamp.Statement.{statement}
+use Rattle.btree_v2_stamp.proofs.stamp.Tie as tie
 
-pub seal-spec : {M : Type 1} → statement M
-seal-spec =
+pub stamp-spec : {M : Type 1} → statement M
+stamp-spec =
     tie.close
     (tie.spec
-    (λ c. seal-long _ _ _ (c .if1 .taken))
-    (λ c. seal-small _ _ _ (c .if2 .taken))
-    (λ c. seal-full _ _ _ (c .before .if2 .left) (c .if3 .taken))
+    (λ c. stamp-long _ _ _ (c .if1 .taken))
+    (λ c. stamp-small _ _ _ (c .if2 .taken))
+    (λ c. stamp-full _ _ _ (c .before .if2 .left) (c .if3 .taken))
     (λ c. search needs)
     (λ c. simp length-take (omega arith))
     (λ c κs. search needs)
@@ -28,5 +28,5 @@ seal-spec =
     let written = c .before .before .before .before .before .before in
     let tested = written .before .before .before .before in
     let a = tested .before .before .before .before .args in
-    seal-put (a .node .now) (a .used) (a .node-size) (omega (arith, tested .if3 .left, tested .before .if2 .left)) (tested .before .before .if1 .left)
+    stamp-put (a .node .now) (a .used) (a .node-size) (omega (arith, tested .if3 .left, tested .before .if2 .left)) (tested .before .before .if1 .left)
     _ _ _ (written .before .before .jenkins-lookup3 .ensures) (written .write-le .ensures .0) (c .before .before .clear .ensures)))

@@ -9,8 +9,8 @@ use Rattle.numbers.specs.Numbers.{pick, le}
 use Rattle.numbers.specs.Places.{stored}
 
 -- The node with the checksum of its first `used` bytes after them and zeros from there to `size`, where that much is there; else as it was.
-unfoldable pub sealed : List ℕ → ℕ → ℕ → List ℕ
-sealed node used size =
+unfoldable pub stamped : List ℕ → ℕ → ℕ → List ℕ
+stamped node used size =
     pick
     (leb (used + 4) size && leb size (length node))
     (stored node used (le 4 (lookup3 (take used node)) ++ replicate (size - (used + 4)) 0))
