@@ -8,6 +8,7 @@ use lib.Arith.{mul-pred}
 use Rattle.numbers.specs.Numbers.{saturated, width}
 use Rattle.numbers.proofs.Numbers.{width-le, width-holds, width-mono, saturated-mono, saturated-add, saturated-mul}
 use Rattle.node_info.specs.Capacity.{leafCapacity, countWidth, subtree, pointerSize, internalCapacity, subtreeCapacity, totalWidth, nodeCapacity}
+use Rattle.node_info.specs.declared.Geometry.{Geometry}
 
 -- From one level to the next, so from a level to any above it.
 rises : (f : ℕ → ℕ) → ((u : ℕ) → f u ≤ f (suc u)) → {u v : ℕ} → u ≤ v → f u ≤ f v
@@ -29,113 +30,113 @@ subtree-grows m b n c h l =
     rw (mul-comm b (m + 1), ← saturated-add ((m + 1) * b) m, ← saturated-mul (m + 1) b, saturated-add ((m + 1) * saturated b) m)
     (saturated-mono ((m + 1) * saturated b + m) ((n + 1) * c + n) (add-le-add (mul-le-mul (add-le-add h (le-refl 1)) l) h))
 
-module _ (ns rs : ℕ) where
-  pub leaf-le : leafCapacity ns rs ≤ ns
+module _ (g : Geometry) where
+  pub leaf-le : leafCapacity g ≤ g .«node_size»
   unfolding leafCapacity
-  leaf-le = le-trans (div-le-self (ns - 10) rs) (sub-le ns 10)
+  leaf-le = le-trans (div-le-self (g .«node_size» - 10) (g .«record_size»)) (sub-le (g .«node_size») 10)
 
-  pub count-width-le : countWidth ns rs ≤ 8
+  pub count-width-le : countWidth g ≤ 8
   unfolding countWidth
   count-width-le = width-le _
 
-  pub internal-le : (p : ℕ) → internalCapacity ns rs p ≤ ns
+  pub internal-le : (p : ℕ) → internalCapacity g p ≤ g .«node_size»
   unfolding internalCapacity
-  internal-le p = le-trans (div-le-self (ns - 10 - p) (rs + p)) (omega arith)
+  internal-le p = le-trans (div-le-self (g .«node_size» - 10 - p) (g .«record_size» + p)) (omega arith)
 
-module _ (ns rs ow : ℕ) where
+module _ (g : Geometry) where
   -- The definitions, level by level.
-  pub node-zero : nodeCapacity ns rs ow 0 ≡ leafCapacity ns rs
+  pub node-zero : nodeCapacity g 0 ≡ leafCapacity g
   unfolding nodeCapacity
   node-zero = refl
 
-  pub subtree-zero : subtreeCapacity ns rs ow 0 ≡ leafCapacity ns rs
+  pub subtree-zero : subtreeCapacity g 0 ≡ leafCapacity g
   unfolding subtreeCapacity
   subtree-zero = refl
 
-  pub total-zero : totalWidth ns rs ow 0 ≡ 0
+  pub total-zero : totalWidth g 0 ≡ 0
   unfolding totalWidth
   total-zero = refl
 
-  pub node-suc : (u : ℕ) → nodeCapacity ns rs ow (suc u) ≡ internalCapacity ns rs (pointerSize ow (countWidth ns rs) (totalWidth ns rs ow u))
+  pub node-suc : (u : ℕ) → nodeCapacity g (suc u) ≡ internalCapacity g (pointerSize g (countWidth g) (totalWidth g u))
   unfolding nodeCapacity
   node-suc u = refl
 
   pub subtree-suc : (u : ℕ)
-      → subtreeCapacity ns rs ow (suc u) ≡ subtree (nodeCapacity ns rs ow (suc u)) (subtreeCapacity ns rs ow u)
+      → subtreeCapacity g (suc u) ≡ subtree (nodeCapacity g (suc u)) (subtreeCapacity g u)
   unfolding subtreeCapacity nodeCapacity totalWidth
   subtree-suc u = refl
 
-  pub total-suc : (u : ℕ) → totalWidth ns rs ow (suc u) ≡ width (subtreeCapacity ns rs ow (suc u))
+  pub total-suc : (u : ℕ) → totalWidth g (suc u) ≡ width (subtreeCapacity g (suc u))
   unfolding totalWidth
   total-suc u = refl
 
-  saturated-subtree : (u : ℕ) → subtreeCapacity ns rs ow (suc u) < 2 ^ 64
+  saturated-subtree : (u : ℕ) → subtreeCapacity g (suc u) < 2 ^ 64
   saturated-subtree u = rw subtree-suc (omega arith)
 
-  pub subtree-lt : ns < 2 ^ 64 → (u : ℕ) → subtreeCapacity ns rs ow u < 2 ^ 64
-  subtree-lt h zero = rw subtree-zero (lt-of-le-of-lt (leaf-le ns rs) h)
+  pub subtree-lt : g .«node_size» < 2 ^ 64 → (u : ℕ) → subtreeCapacity g u < 2 ^ 64
+  subtree-lt h zero = rw subtree-zero (lt-of-le-of-lt (leaf-le g) h)
   subtree-lt h (suc u) = saturated-subtree u
 
-  pub total-le : (u : ℕ) → totalWidth ns rs ow u ≤ 8
+  pub total-le : (u : ℕ) → totalWidth g u ≤ 8
   total-le zero = rw total-zero zero-le
   total-le (suc u) = rw total-suc (width-le _)
 
   -- C and T never fall with the level; a level whose nodes hold none adds nothing to C.
-  subtree-up : (u : ℕ) → subtreeCapacity ns rs ow u < 2 ^ 64 → subtreeCapacity ns rs ow u ≤ subtreeCapacity ns rs ow (suc u)
-  subtree-up u h = rw subtree-suc (subtree-child (nodeCapacity ns rs ow (suc u)) (subtreeCapacity ns rs ow u) h)
+  subtree-up : (u : ℕ) → subtreeCapacity g u < 2 ^ 64 → subtreeCapacity g u ≤ subtreeCapacity g (suc u)
+  subtree-up u h = rw subtree-suc (subtree-child (nodeCapacity g (suc u)) (subtreeCapacity g u) h)
 
-  pub subtree-rises : ns < 2 ^ 64 → {u v : ℕ} → u ≤ v → subtreeCapacity ns rs ow u ≤ subtreeCapacity ns rs ow v
-  subtree-rises h = rises (subtreeCapacity ns rs ow) (λ u. subtree-up u (subtree-lt h u))
+  pub subtree-rises : g .«node_size» < 2 ^ 64 → {u v : ℕ} → u ≤ v → subtreeCapacity g u ≤ subtreeCapacity g v
+  subtree-rises h = rises (subtreeCapacity g) (λ u. subtree-up u (subtree-lt h u))
 
-  pub subtree-none : (u : ℕ) → nodeCapacity ns rs ow (suc u) ≡ 0 → subtreeCapacity ns rs ow (suc u) ≤ subtreeCapacity ns rs ow u
+  pub subtree-none : (u : ℕ) → nodeCapacity g (suc u) ≡ 0 → subtreeCapacity g (suc u) ≤ subtreeCapacity g u
   subtree-none u e = rw (subtree-suc u, e, one-mul) (omega arith)
 
-  total-up : (u : ℕ) → totalWidth ns rs ow u ≤ totalWidth ns rs ow (suc u)
+  total-up : (u : ℕ) → totalWidth g u ≤ totalWidth g (suc u)
   total-up zero = rw total-zero zero-le
   total-up (suc u) = rw (total-suc u, total-suc (suc u)) (width-mono _ _ (subtree-up (suc u) (saturated-subtree u)))
 
-  pub total-rises : {u v : ℕ} → u ≤ v → totalWidth ns rs ow u ≤ totalWidth ns rs ow v
-  total-rises = rises (totalWidth ns rs ow) total-up
+  pub total-rises : {u v : ℕ} → u ≤ v → totalWidth g u ≤ totalWidth g v
+  total-rises = rises (totalWidth g) total-up
 
   -- A total fits its field, above the leaves.
-  pub total-fits : (u n : ℕ) → 0 < u → n ≤ subtreeCapacity ns rs ow u → n < 256 ^ totalWidth ns rs ow u
+  pub total-fits : (u n : ℕ) → 0 < u → n ≤ subtreeCapacity g u → n < 256 ^ totalWidth g u
   total-fits zero n p h = absurd (not-suc-le-zero p)
   total-fits (suc u) n p h = rw total-suc (lt-of-le-of-lt h (width-holds _ (saturated-subtree u)))
 
   -- The bytes of a node fit: of a leaf, and of an internal node of level u + 1.
-  pub leaf-bytes : (n : ℕ) → 10 ≤ ns → n ≤ nodeCapacity ns rs ow 0 → 10 + n * rs ≤ ns
+  pub leaf-bytes : (n : ℕ) → 10 ≤ g .«node_size» → n ≤ nodeCapacity g 0 → 10 + n * g .«record_size» ≤ g .«node_size»
   unfolding nodeCapacity leafCapacity
-  leaf-bytes n p h = omega (arith, mul-le-mul-right rs h, div-mul-le-self (ns - 10) rs)
+  leaf-bytes n p h = omega (arith, mul-le-mul-right (g .«record_size») h, div-mul-le-self (g .«node_size» - 10) (g .«record_size»))
 
-  pub internal-bytes : (u n : ℕ) → 0 < nodeCapacity ns rs ow (suc u) → n ≤ nodeCapacity ns rs ow (suc u)
-      → 10 + n * rs + (n + 1) * pointerSize ow (countWidth ns rs) (totalWidth ns rs ow u) ≤ ns
+  pub internal-bytes : (u n : ℕ) → 0 < nodeCapacity g (suc u) → n ≤ nodeCapacity g (suc u)
+      → 10 + n * g .«record_size» + (n + 1) * pointerSize g (countWidth g) (totalWidth g u) ≤ g .«node_size»
   unfolding nodeCapacity internalCapacity
   internal-bytes u n p h =
-      let t = pointerSize ow (countWidth ns rs) (totalWidth ns rs ow u) in
-      let room : n * (rs + t) ≤ ns - 10 - t =
-      le-trans (mul-le-mul-right (rs + t) h) (div-mul-le-self (ns - 10 - t) (rs + t)) in
-      rw (add-mul, one-mul) (omega (arith, pos-of-div-pos (rs + t) p, rw mul-add at room))
+      let t = pointerSize g (countWidth g) (totalWidth g u) in
+      let room : n * (g .«record_size» + t) ≤ g .«node_size» - 10 - t =
+      le-trans (mul-le-mul-right (g .«record_size» + t) h) (div-mul-le-self (g .«node_size» - 10 - t) (g .«record_size» + t)) in
+      rw (add-mul, one-mul) (omega (arith, pos-of-div-pos (g .«record_size» + t) p, rw mul-add at room))
 
   -- For records of a byte or more M never rises with the level, the leaves' included; so a count fits its field, and nodes of m records
   -- or more make C at least a power, as far as it is not saturated.
-  module _ (pos : 0 < rs) where
-    node-down : (u : ℕ) → nodeCapacity ns rs ow (suc u) ≤ nodeCapacity ns rs ow u
+  module _ (pos : 0 < g .«record_size») where
+    node-down : (u : ℕ) → nodeCapacity g (suc u) ≤ nodeCapacity g u
     unfolding nodeCapacity internalCapacity leafCapacity pointerSize
     node-down zero = div-le _ _ pos (sub-le _ _) (omega arith)
     node-down (suc u) = div-le _ _ (omega arith) (omega (arith, total-up u)) (omega (arith, total-up u))
 
-    pub node-falls : {u v : ℕ} → u ≤ v → nodeCapacity ns rs ow v ≤ nodeCapacity ns rs ow u
-    node-falls = falls (nodeCapacity ns rs ow) node-down
+    pub node-falls : {u v : ℕ} → u ≤ v → nodeCapacity g v ≤ nodeCapacity g u
+    node-falls = falls (nodeCapacity g) node-down
 
-    pub node-le-leaf : (u : ℕ) → nodeCapacity ns rs ow u ≤ leafCapacity ns rs
+    pub node-le-leaf : (u : ℕ) → nodeCapacity g u ≤ leafCapacity g
     node-le-leaf u = rw node-zero at (node-falls {u = 0} {v = u} zero-le)
 
-    pub count-fits : ns < 2 ^ 64 → (u n : ℕ) → n ≤ nodeCapacity ns rs ow u → n < 256 ^ countWidth ns rs
+    pub count-fits : g .«node_size» < 2 ^ 64 → (u n : ℕ) → n ≤ nodeCapacity g u → n < 256 ^ countWidth g
     unfolding countWidth
     count-fits l u n h =
-        lt-of-le-of-lt (le-trans h (node-le-leaf u)) (width-holds (leafCapacity ns rs) (lt-of-le-of-lt (leaf-le ns rs) l))
+        lt-of-le-of-lt (le-trans h (node-le-leaf u)) (width-holds (leafCapacity g) (lt-of-le-of-lt (leaf-le g) l))
 
-    pub subtree-power : (m u : ℕ) → m ≤ nodeCapacity ns rs ow u → saturated ((m + 1) ^ (u + 1) - 1) ≤ subtreeCapacity ns rs ow u
+    pub subtree-power : (m u : ℕ) → m ≤ nodeCapacity g u → saturated ((m + 1) ^ (u + 1) - 1) ≤ subtreeCapacity g u
     subtree-power m zero h =
         rw (subtree-zero, ← node-zero, pow-suc (m + 1) 0, pow-zero, one-mul) (omega arith)
     subtree-power m (suc u) h =

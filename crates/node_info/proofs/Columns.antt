@@ -15,6 +15,7 @@ use Rattle.numbers.proofs.Numbers.{lt-or-le}
 use Rattle.node_info.specs.Capacity.{totalWidth, nodeCapacity, subtreeCapacity}
 use Rattle.node_info.specs.Table.{columnFrom, column, infoAt}
 use Rattle.node_info.specs.declared.NodeInfo.{NodeInfo}
+use Rattle.node_info.specs.declared.Geometry.{Geometry}
 
 module _ (f : ℕ → ℕ) (d : ℕ) where
   length-from : (i k : ℕ) → length (columnFrom f d i k) ≡ k
@@ -72,20 +73,15 @@ column-more f d =
         (lt-or-le i (d + 1))
 
 -- The entries of a table up to its depth.
-module _ (ns rs ow d : ℕ) (t : NodeInfo) (table : t ≡ infoAt ns rs ow d) (u : ℕ) (h : u ≤ d) (l : d ≤ 32) where
-  pub total-entry : getD (t .«cum_max_nrec_size») u 0 ≡ totalWidth ns rs ow u
+module _ (g : Geometry) (d : ℕ) (t : NodeInfo) (table : t ≡ infoAt g d) (u : ℕ) (h : u ≤ d) (l : d ≤ 32) where
+  pub total-entry : getD (t .«cum_max_nrec_size») u 0 ≡ totalWidth g u
   unfolding infoAt
-  total-entry = rw table (column-at (totalWidth ns rs ow) d u h (omega arith))
+  total-entry = rw table (column-at (totalWidth g) d u h (omega arith))
 
-  pub node-entry : getD (t .«max_nrec») u 0 ≡ nodeCapacity ns rs ow u
+  pub node-entry : getD (t .«max_nrec») u 0 ≡ nodeCapacity g u
   unfolding infoAt
-  node-entry = rw table (column-at (nodeCapacity ns rs ow) d u h (omega arith))
+  node-entry = rw table (column-at (nodeCapacity g) d u h (omega arith))
 
-  pub subtree-entry : getD (t .«cum_max_nrec») u 0 ≡ subtreeCapacity ns rs ow u
+  pub subtree-entry : getD (t .«cum_max_nrec») u 0 ≡ subtreeCapacity g u
   unfolding infoAt
-  subtree-entry = rw table (column-at (subtreeCapacity ns rs ow) d u h (omega arith))
-
--- The offset size does not matter to a table of the leaves alone.
-pub leaf-any : (ns rs ow : ℕ) → infoAt ns rs ow 0 ≡ infoAt ns rs 0 0
-unfolding infoAt column columnFrom totalWidth nodeCapacity subtreeCapacity
-leaf-any ns rs ow = refl
+  subtree-entry = rw table (column-at (subtreeCapacity g) d u h (omega arith))

@@ -14,48 +14,49 @@ use Rattle.node_info.specs.Capacity.{leafCapacity, countWidth, subtree, 
 use Rattle.node_info.specs.Table.{columnFrom, column, infoAt, levelAbove, noInfo, tabled}
 use Rattle.node_info.specs.declared.NodeInfo.{NodeInfo}
 use Rattle.node_info.specs.declared.Level.{Level}
-use Rattle.node_info.proofs.Columns.{column-more, total-entry, subtree-entry, leaf-any}
+use Rattle.node_info.proofs.Columns.{column-more, total-entry, subtree-entry}
 use Rattle.node_info.proofs.Capacities.{internal-le, node-suc, subtree-suc, total-suc}
+use Rattle.node_info.specs.declared.Geometry.{Geometry}
 
-module _ (ns rs : ℕ) where
+module _ (g : Geometry) where
   -- Records in a full leaf.
-  pub leaf-small : ns ≤ 10 → 0 ≡ leafCapacity ns rs
+  pub leaf-small : g .«node_size» ≤ 10 → 0 ≡ leafCapacity g
   unfolding leafCapacity
   leaf-small h = rw (sub-eq-zero-of-le h, zero-div)
 
-  pub leaf-no-size : rs ≡ 0 → 0 ≡ leafCapacity ns rs
+  pub leaf-no-size : g .«record_size» ≡ 0 → 0 ≡ leafCapacity g
   unfolding leafCapacity
   leaf-no-size e = rw (e, div-zero)
 
-  pub leaf-is : (ns - 10) / rs ≡ leafCapacity ns rs
+  pub leaf-is : (g .«node_size» - 10) / g .«record_size» ≡ leafCapacity g
   unfolding leafCapacity
   leaf-is = refl
 
   -- Records in a full internal node.
   module _ (p : ℕ) where
-    pub internal-small : ns ≤ 10 + p → 0 ≡ internalCapacity ns rs p
+    pub internal-small : g .«node_size» ≤ 10 + p → 0 ≡ internalCapacity g p
     unfolding internalCapacity
-    internal-small h = rw (← sub-add-eq ns 10 p, sub-eq-zero-of-le h, zero-div)
+    internal-small h = rw (← sub-add-eq (g .«node_size») 10 p, sub-eq-zero-of-le h, zero-div)
 
-    pub internal-no-size : rs + p ≡ 0 → 0 ≡ internalCapacity ns rs p
+    pub internal-no-size : g .«record_size» + p ≡ 0 → 0 ≡ internalCapacity g p
     unfolding internalCapacity
     internal-no-size e = rw (e, div-zero)
 
-    pub internal-is : (ns - (10 + p)) / (rs + p) ≡ internalCapacity ns rs p
+    pub internal-is : (g .«node_size» - (10 + p)) / (g .«record_size» + p) ≡ internalCapacity g p
     unfolding internalCapacity
-    internal-is = rw (← sub-add-eq ns 10 p)
+    internal-is = rw (← sub-add-eq (g .«node_size») 10 p)
 
-    pub one-more : (m : ℕ) → m ≡ internalCapacity ns rs p → ns < 2 ^ 32 → m + 1 < 2 ^ 64
-    one-more m e h = omega (arith, internal-le ns rs p)
+    pub one-more : (m : ℕ) → m ≡ internalCapacity g p → g .«node_size» < 2 ^ 32 → m + 1 < 2 ^ 64
+    one-more m e h = omega (arith, internal-le g p)
 
   -- The level above.
-  pub level-is : (ow w t c m a x : ℕ) → m ≡ internalCapacity ns rs (ow + w + t) → a ≡ subtree m c → x ≡ width a
-      → _≡_ {A = Level} (record { most = m; all = a; total = x }) (levelAbove ns rs (pointerSize ow w t) c)
+  pub level-is : (w t c m a x : ℕ) → m ≡ internalCapacity g (g .«offset_size» + w + t) → a ≡ subtree m c → x ≡ width a
+      → _≡_ {A = Level} (record { most = m; all = a; total = x }) (levelAbove g (pointerSize g w t) c)
   unfolding levelAbove pointerSize
-  level-is ow w t c m a x hm ha hx = rw (hx, ha, hm)
+  level-is w t c m a x hm ha hx = rw (hx, ha, hm)
 
   -- The table of the leaves alone.
-  pub leaf-info : (m w : ℕ) → m ≡ leafCapacity ns rs → w ≡ width m
+  pub leaf-info : (m w : ℕ) → m ≡ leafCapacity g → w ≡ width m
       → _≡_ {A = NodeInfo}
       (record {
         «max_nrec_size» = w;
@@ -63,7 +64,7 @@ module _ (ns rs : ℕ) where
         «max_nrec» = set (replicate 33 0) 0 m;
         «cum_max_nrec» = set (replicate 33 0) 0 m;
       })
-      (infoAt ns rs 0 0)
+      (infoAt g 0)
   unfolding infoAt column columnFrom countWidth totalWidth nodeCapacity subtreeCapacity
   leaf-info m w hm hw = rw (hw, hm)
 
@@ -75,18 +76,18 @@ pub no-info : _≡_ {A = NodeInfo}
 unfolding noInfo
 no-info = refl
 
-module _ (ns rs ow : ℕ) where
+module _ (g : Geometry) where
   -- What a loop that grows a table keeps: W, and the table of depth u.
   abbrev pub Grown : ℕ → NodeInfo → ℕ → Type 0
-  Grown w t u = (u ≤ 32) × (w ≡ countWidth ns rs) × (t ≡ infoAt ns rs ow u)
+  Grown w t u = (u ≤ 32) × (w ≡ countWidth g) × (t ≡ infoAt g u)
 
-  pub grown-start : (t : NodeInfo) → t ≡ infoAt ns rs 0 0 → Grown (t .«max_nrec_size») t 0
+  pub grown-start : (t : NodeInfo) → t ≡ infoAt g 0 → Grown (t .«max_nrec_size») t 0
   unfolding infoAt
-  grown-start t e = (zero-le, rw e, rw (e, leaf-any ns rs ow))
+  grown-start t e = (zero-le, rw e, rw e)
 
   module _ (w : ℕ) (t : NodeInfo) (u : ℕ) (grown : Grown w t u) where
     pub grown-turn : (l : Level) → u < 32
-        → l ≡ levelAbove ns rs (pointerSize ow w (getD (t .«cum_max_nrec_size») u 0)) (getD (t .«cum_max_nrec») u 0)
+        → l ≡ levelAbove g (pointerSize g w (getD (t .«cum_max_nrec_size») u 0)) (getD (t .«cum_max_nrec») u 0)
         → Grown w
         (record {
           «max_nrec_size» = t .«max_nrec_size»;
@@ -97,21 +98,21 @@ module _ (ns rs ow : ℕ) where
         (u + 1)
     unfolding infoAt levelAbove
     grown-turn l h e =
-        let total = total-entry ns rs ow u t (grown .2) u (le-refl u) (grown .0) in
-        let under = subtree-entry ns rs ow u t (grown .2) u (le-refl u) (grown .0) in
-        let em : l .most ≡ nodeCapacity ns rs ow (u + 1) = rw (e, grown .1, total, add-one u, node-suc) in
-        let ea : l .all ≡ subtreeCapacity ns rs ow (u + 1) = rw (e, grown .1, total, under, add-one u, subtree-suc, node-suc) in
-        let ex : l .total ≡ totalWidth ns rs ow (u + 1) = rw (add-one u, total-suc, ← add-one u, ← ea, e) in
-        (omega arith, grown .1, rw (grown .2, em, ea, ex, column-more (totalWidth ns rs ow) u, column-more (nodeCapacity ns rs ow) u, column-more (subtreeCapacity ns rs ow) u))
+        let total = total-entry g u t (grown .2) u (le-refl u) (grown .0) in
+        let under = subtree-entry g u t (grown .2) u (le-refl u) (grown .0) in
+        let em : l .most ≡ nodeCapacity g (u + 1) = rw (e, grown .1, total, add-one u, node-suc) in
+        let ea : l .all ≡ subtreeCapacity g (u + 1) = rw (e, grown .1, total, under, add-one u, subtree-suc, node-suc) in
+        let ex : l .total ≡ totalWidth g (u + 1) = rw (add-one u, total-suc, ← add-one u, ← ea, e) in
+        (omega arith, grown .1, rw (grown .2, em, ea, ex, column-more (totalWidth g) u, column-more (nodeCapacity g) u, column-more (subtreeCapacity g) u))
 
     -- The table of the depth that was asked for.
     pub grown-end : (d : ℕ) → u ≤ d → d ≤ u → d ≤ 32
-        → (accepted (t .«max_nrec_size» ∷ (t .«max_nrec» ++ (t .«cum_max_nrec» ++ t .«cum_max_nrec_size»))) ≡ tabled ns rs ow d)
-        × (t ≡ pick (leb d 32) (infoAt ns rs ow d) noInfo)
+        → (accepted (t .«max_nrec_size» ∷ (t .«max_nrec» ++ (t .«cum_max_nrec» ++ t .«cum_max_nrec_size»))) ≡ tabled g d)
+        × (t ≡ pick (leb d 32) (infoAt g d) noInfo)
     unfolding infoAt tabled
     grown-end d a b l = let e : u ≡ d = omega arith in (rw (le-leb d 32 l, grown .2, e), rw (le-leb d 32 l, grown .2, e))
 
   pub too-deep : (t : NodeInfo) (d : ℕ) → 32 < d → t ≡ noInfo
-      → (refused 16 (d ∷ []) ≡ tabled ns rs ow d) × (t ≡ pick (leb d 32) (infoAt ns rs ow d) noInfo)
+      → (refused 16 (d ∷ []) ≡ tabled g d) × (t ≡ pick (leb d 32) (infoAt g d) noInfo)
   unfolding tabled
   too-deep t d h e = (rw (lt-leb d 32 h), rw (lt-leb d 32 h, e))

@@ -10,6 +10,7 @@ use Rattle.node_info.specs.declared.NodeInfo.{NodeInfo}
 use Rattle.node_info.specs.declared.Level.{Level}
 use Rattle.refusal.specs.declared.Verdict.{Verdict}
 use Rattle.refusal.specs.declared.Verdict.the-variants.{Accepted, Refused}
+use Rattle.node_info.specs.declared.Geometry.{Geometry}
 
 -- k entries of a column from level i on: f up to level d, and 0 above.
 unfoldable pub columnFrom : (ℕ → ℕ) → ℕ → ℕ → ℕ → List ℕ
@@ -21,19 +22,19 @@ unfoldable pub column : (ℕ → ℕ) → ℕ → List ℕ
 column f d = columnFrom f d 0 33
 
 -- The table for depth d.
-unfoldable pub infoAt : ℕ → ℕ → ℕ → ℕ → NodeInfo
-infoAt ns rs ow d =
+unfoldable pub infoAt : Geometry → ℕ → NodeInfo
+infoAt g d =
     record {
-      «max_nrec_size» = countWidth ns rs;
-      «cum_max_nrec_size» = column (totalWidth ns rs ow) d;
-      «max_nrec» = column (nodeCapacity ns rs ow) d;
-      «cum_max_nrec» = column (subtreeCapacity ns rs ow) d;
+      «max_nrec_size» = countWidth g;
+      «cum_max_nrec_size» = column (totalWidth g) d;
+      «max_nrec» = column (nodeCapacity g) d;
+      «cum_max_nrec» = column (subtreeCapacity g) d;
     }
 
 -- The entries M, C and T of a level whose child pointers have p bytes and whose children's subtrees hold c records.
-unfoldable pub levelAbove : ℕ → ℕ → ℕ → ℕ → Level
-levelAbove ns rs p c =
-    let m = internalCapacity ns rs p in
+unfoldable pub levelAbove : Geometry → ℕ → ℕ → Level
+levelAbove g p c =
+    let m = internalCapacity g p in
     let a = subtree m c in
     record { most = m; all = a; total = width a }
 
@@ -44,12 +45,12 @@ noInfo =
     { «max_nrec_size» = 0; «cum_max_nrec_size» = replicate 33 0; «max_nrec» = replicate 33 0; «cum_max_nrec» = replicate 33 0 }
 
 -- The table call's answer: W, M, C, T, or refusal 16.
-unfoldable pub tabled : ℕ → ℕ → ℕ → ℕ → Answer
-tabled ns rs ow d =
+unfoldable pub tabled : Geometry → ℕ → Answer
+tabled g d =
     pick (leb d 32)
     (accepted
-    (countWidth ns rs
-    ∷ (column (nodeCapacity ns rs ow) d ++ (column (subtreeCapacity ns rs ow) d ++ column (totalWidth ns rs ow) d))))
+    (countWidth g
+    ∷ (column (nodeCapacity g) d ++ (column (subtreeCapacity g) d ++ column (totalWidth g) d))))
     (refused 16 (d ∷ []))
 
 -- What a verdict and a table say, in those terms.

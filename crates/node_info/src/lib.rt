@@ -8,6 +8,13 @@ ghost use Rattle.node_info.specs.Table.{infoAt, levelAbove, noInfo, tabl
 use refusal::Refusal;
 use refusal::Verdict;
 
+// A tree's sizes in bytes: of a node, of a record, and of an address.
+pub struct Geometry {
+    pub node_size: u32,
+    pub record_size: u16,
+    pub offset_size: u8,
+}
+
 // The table; an entry above the depth that it was made for is 0.
 pub struct NodeInfo {
     // width of a child's record count (W)
@@ -34,47 +41,40 @@ pub struct Level {
 }
 
 // Records in a full leaf.
-fn max_records_leaf(node_size: u32, record_size: u16) -> u64
-    ensures { λ r. ⌜ r ≡ leafCapacity «node_size» «record_size» ⌝ }
+fn max_records_leaf(geometry: Geometry) -> u64
+    ensures { λ r. ⌜ r ≡ leafCapacity geometry ⌝ }
 {
-    if node_size <= NodeInfo::OVERHEAD {
+    if geometry.node_size <= NodeInfo::OVERHEAD {
         return 0;
     }
-    if record_size == 0 {
+    if geometry.record_size == 0 {
         return 0;
     }
-    (node_size - NodeInfo::OVERHEAD) as u64 / (record_size as u64)
+    (geometry.node_size - NodeInfo::OVERHEAD) as u64 / (geometry.record_size as u64)
 }
 
 // Records in a full internal node whose child pointers have `pointer` bytes.
-fn max_records_internal(node_size: u32, record_size: u16, pointer: u16) -> u64
-    ensures { λ r. ⌜ r ≡ internalCapacity «node_size» «record_size» pointer ⌝ }
+fn max_records_internal(geometry: Geometry, pointer: u16) -> u64
+    ensures { λ r. ⌜ r ≡ internalCapacity geometry pointer ⌝ }
 {
     let taken = NodeInfo::OVERHEAD as u64 + (pointer as u64);
-    let room = node_size as u64;
+    let room = geometry.node_size as u64;
     if room <= taken {
         return 0;
     }
-    let each = (record_size as u64) + (pointer as u64);
+    let each = (geometry.record_size as u64) + (pointer as u64);
     if each == 0 {
         return 0;
     }
     (room - taken) / each
 }
 
-// The entries of the level above one whose subtrees hold `under` records, where a child pointer has these three sizes.
-pub fn level_above(
-    node_size: u32,
-    record_size: u16,
-    offset_size: u8,
-    count_size: u8,
-    total_size: u8,
-    under: u64,
-) -> Level
-    ensures { λ r. ⌜ r ≡ levelAbove «node_size» «record_size» (pointerSize «offset_size» «count_size» «total_size») under ⌝ }
+// The entries of the level above one whose subtrees hold `under` records, where a child pointer's count and total have these sizes.
+pub fn level_above(geometry: Geometry, count_size: u8, total_size: u8, under: u64) -> Level
+    ensures { λ r. ⌜ r ≡ levelAbove geometry (pointerSize geometry «count_size» «total_size») under ⌝ }
 {
-    let pointer = (offset_size as u16) + (count_size as u16) + (total_size as u16);
-    let most = max_records_internal(node_size, record_size, pointer);
+    let pointer = (geometry.offset_size as u16) + (count_size as u16) + (total_size as u16);
+    let most = max_records_internal(geometry, pointer);
     let all = numbers::saturating_add(numbers::saturating_mul(most + 1, under), most);
     Level {
         most,
@@ -90,10 +90,10 @@ impl NodeInfo {
     pub const LEVEL_LIMIT: u16 = 32;
 
     // The table of the leaf level alone, from which every table grows.
-    pub fn leaf_only(node_size: u32, record_size: u16) -> NodeInfo
-        ensures { λ r. ⌜ r ≡ infoAt «node_size» «record_size» 0 0 ⌝ }
+    pub fn leaf_only(geometry: Geometry) -> NodeInfo
+        ensures { λ r. ⌜ r ≡ infoAt geometry 0 ⌝ }
     {
-        let most = max_records_leaf(node_size, record_size);
+        let most = max_records_leaf(geometry);
         let count_size = numbers::bytes_for_max_records(most);
         let mut max_nrec = [0u64; 33];
         max_nrec[0] = most;
@@ -120,8 +120,8 @@ impl NodeInfo {
     }
 
     // The table of a tree of this depth.
-    pub fn compute(node_size: u32, record_size: u16, offset_size: u8, depth: u16) -> NodeInfoAnswer
-        ensures { λ r. ⌜ (tableAnswer (r .verdict) (r .info) ≡ tabled «node_size» «record_size» «offset_size» depth) × (r .info ≡ pick (leb depth 32) (infoAt «node_size» «record_size» «offset_size» depth) noInfo) ⌝ }
+    pub fn compute(geometry: Geometry, depth: u16) -> NodeInfoAnswer
+        ensures { λ r. ⌜ (tableAnswer (r .verdict) (r .info) ≡ tabled geometry depth) × (r .info ≡ pick (leb depth 32) (infoAt geometry depth) noInfo) ⌝ }
     {
         if NodeInfo::LEVEL_LIMIT < depth {
             return NodeInfoAnswer {
@@ -129,7 +129,7 @@ impl NodeInfo {
                 info: NodeInfo::none(),
             };
         }
-        let mut info = NodeInfo::leaf_only(node_size, record_size);
+        let mut info = NodeInfo::leaf_only(geometry);
         let count_size = info.max_nrec_size;
         let mut u = 0;
         while u < depth as usize {
@@ -137,7 +137,7 @@ impl NodeInfo {
             u += 1;
             let total = info.cum_max_nrec_size[below];
             let under = info.cum_max_nrec[below];
-            let level = level_above(node_size, record_size, offset_size, count_size, total, under);
+            let level = level_above(geometry, count_size, total, under);
             info.cum_max_nrec_size[u] = level.total;
             info.max_nrec[u] = level.most;
             info.cum_max_nrec[u] = level.all;

@@ -16,82 +16,83 @@ use Rattle.plan.proofs.Depths.{holding, depth-small, depth-none, depth-
 use Rattle.plan.proofs.Plans.{plan-size, plan-filled, plan-nodes-le, plan-within}
 use Rattle.plan.proofs.Thin.{Levels, thin-root}
 use Rattle.plan.proofs.Trees.{Within, Filled}
+use Rattle.node_info.specs.declared.Geometry.{Geometry}
 
 -- Refusal 11 is decided at the root.
-pub thin-plan : (n rs ns ow : ℕ) (pass : Passed n rs ns ow) → holding n rs ns ow ≡ true
-    → thin (subtreeCapacity ns rs ow) (planDepth n rs ns ow) n ≡ ltb n (2 ^ (planDepth n rs ns ow + 1) - 1)
-thin-plan n rs ns ow pass test =
-    thin-root (subtreeCapacity ns rs ow) (nodeCapacity ns rs ow) (planDepth n rs ns ow) n
-    (depth-levels n rs ns ow (pass .some) (depth-holds n rs ns ow pass test)) (depth-holds-all n rs ns ow pass test)
+pub thin-plan : (n : ℕ) (g : Geometry) (pass : Passed n g) → holding n g ≡ true
+    → thin (subtreeCapacity g) (planDepth n g) n ≡ ltb n (2 ^ (planDepth n g + 1) - 1)
+thin-plan n g pass test =
+    thin-root (subtreeCapacity g) (nodeCapacity g) (planDepth n g) n
+    (depth-levels n g (pass .some) (depth-holds n g pass test)) (depth-holds-all n g pass test)
 
 -- No records: one empty leaf.
-module _ (rs ns ow : ℕ) where
-  pub planned-none : _≡_ {A = (d : ℕ) × Tree d} (planDepth 0 rs ns ow, planned 0 rs ns ow) (0, 0)
+module _ (g : Geometry) where
+  pub planned-none : _≡_ {A = (d : ℕ) × Tree d} (planDepth 0 g, planned 0 g) (0, 0)
   unfolding planned planTree
-  planned-none = rw (depth-none 0 rs ns ow refl)
+  planned-none = rw (depth-none 0 g refl)
 
-  pub figures-none : planFigures 0 rs ns ow ≡ 0 ∷ 1 ∷ 1 ∷ ns ∷ []
+  pub figures-none : planFigures 0 g ≡ 0 ∷ 1 ∷ 1 ∷ g .«node_size» ∷ []
   unfolding planFigures planned planTree nodes below leaves
-  figures-none = rw (depth-none 0 rs ns ow refl, one-mul)
+  figures-none = rw (depth-none 0 g refl, one-mul)
 
-  none-within : Within (nodeCapacity ns rs ow) (subtreeCapacity ns rs ow) (planDepth 0 rs ns ow) (planned 0 rs ns ow)
+  none-within : Within (nodeCapacity g) (subtreeCapacity g) (planDepth 0 g) (planned 0 g)
   unfolding planned planTree count size
-  none-within = rw (depth-none 0 rs ns ow refl) (zero-le, zero-le)
+  none-within = rw (depth-none 0 g refl) (zero-le, zero-le)
 
-  none-size : size (planDepth 0 rs ns ow) (planned 0 rs ns ow) ≡ 0
+  none-size : size (planDepth 0 g) (planned 0 g) ≡ 0
   unfolding planned planTree size
-  none-size = rw (depth-none 0 rs ns ow refl)
+  none-size = rw (depth-none 0 g refl)
 
-  none-nodes : nodes (planDepth 0 rs ns ow) (planned 0 rs ns ow) ≡ 1
+  none-nodes : nodes (planDepth 0 g) (planned 0 g) ≡ 1
   unfolding planned planTree nodes below
-  none-nodes = rw (depth-none 0 rs ns ow refl)
+  none-nodes = rw (depth-none 0 g refl)
 
-module _ (n rs ns ow : ℕ) (p : Plannable n rs ns ow) where
+module _ (n : ℕ) (g : Geometry) (p : Plannable n g) where
   -- The depth is the least level that is enough, and 23 at most.
-  pub planned-least : (u : ℕ) → u < planDepth n rs ns ow → subtreeCapacity ns rs ow u < n
-  planned-least = depth-small n rs ns ow
+  pub planned-least : (u : ℕ) → u < planDepth n g → subtreeCapacity g u < n
+  planned-least = depth-small n g
 
-  pub planned-deep : planDepth n rs ns ow ≤ 23
+  pub planned-deep : planDepth n g ≤ 23
   planned-deep = p .deep
 
-  pub planned-levels : Levels (subtreeCapacity ns rs ow) (nodeCapacity ns rs ow) (planDepth n rs ns ow)
-  planned-levels = depth-levels n rs ns ow (p .pass .some) (p .holds)
+  pub planned-levels : Levels (subtreeCapacity g) (nodeCapacity g) (planDepth n g)
+  planned-levels = depth-levels n g (p .pass .some) (p .holds)
 
   -- The counts add up to n.
-  pub planned-size : size (planDepth n rs ns ow) (planned n rs ns ow) ≡ n
+  pub planned-size : size (planDepth n g) (planned n g) ≡ n
   unfolding planned
   planned-size =
       ⊎-elim
-      (λ (e : n ≡ 0). rw e (none-size rs ns ow))
-      (λ (h : 0 < n). plan-size (subtreeCapacity ns rs ow) (planDepth n rs ns ow) n (p .thick h))
+      (λ (e : n ≡ 0). rw e (none-size g))
+      (λ (h : 0 < n). plan-size (subtreeCapacity g) (planDepth n g) n (p .thick h))
       (eq-zero-or-pos n)
 
   -- Every node of level u holds nodeCapacity u records at most, and every subtree subtreeCapacity u.
-  pub planned-within : Within (nodeCapacity ns rs ow) (subtreeCapacity ns rs ow) (planDepth n rs ns ow) (planned n rs ns ow)
+  pub planned-within : Within (nodeCapacity g) (subtreeCapacity g) (planDepth n g) (planned n g)
   unfolding planned
   planned-within =
       ⊎-elim
-      (λ (e : n ≡ 0). rw e (none-within rs ns ow))
+      (λ (e : n ≡ 0). rw e (none-within g))
       (λ (h : 0 < n).
-      plan-within (subtreeCapacity ns rs ow) (nodeCapacity ns rs ow) (planDepth n rs ns ow) n planned-levels (p .thick h) (p .enough))
+      plan-within (subtreeCapacity g) (nodeCapacity g) (planDepth n g) n planned-levels (p .thick h) (p .enough))
       (eq-zero-or-pos n)
 
   -- Where there are records, every node holds one, so there are no more nodes than records.
-  pub planned-filled : 0 < n → Filled (planDepth n rs ns ow) (planned n rs ns ow)
+  pub planned-filled : 0 < n → Filled (planDepth n g) (planned n g)
   unfolding planned
-  planned-filled h = plan-filled (subtreeCapacity ns rs ow) (planDepth n rs ns ow) n (p .thick h)
+  planned-filled h = plan-filled (subtreeCapacity g) (planDepth n g) n (p .thick h)
 
-  pub planned-nodes : 0 < n → nodes (planDepth n rs ns ow) (planned n rs ns ow) ≤ n
+  pub planned-nodes : 0 < n → nodes (planDepth n g) (planned n g) ≤ n
   unfolding planned
-  planned-nodes h = plan-nodes-le (subtreeCapacity ns rs ow) (planDepth n rs ns ow) n (p .thick h)
+  planned-nodes h = plan-nodes-le (subtreeCapacity g) (planDepth n g) n (p .thick h)
 
   -- The image has 2^40 bytes at most.
-  pub planned-few : nodes (planDepth n rs ns ow) (planned n rs ns ow) < 2 ^ 24
+  pub planned-few : nodes (planDepth n g) (planned n g) < 2 ^ 24
   planned-few =
       ⊎-elim
-      (λ (e : n ≡ 0). rw (e, none-nodes rs ns ow) (omega arith))
+      (λ (e : n ≡ 0). rw (e, none-nodes g) (omega arith))
       (λ (h : 0 < n). omega (arith, planned-nodes h, p .pass .few))
       (eq-zero-or-pos n)
 
-  pub planned-image : nodes (planDepth n rs ns ow) (planned n rs ns ow) * ns ≤ 2 ^ 40
-  planned-image = let few : nodes (planDepth n rs ns ow) (planned n rs ns ow) ≤ 2 ^ 24 = omega (arith, planned-few) in omega (arith, mul-le-mul few (p .pass .high))
+  pub planned-image : nodes (planDepth n g) (planned n g) * g .«node_size» ≤ 2 ^ 40
+  planned-image = let few : nodes (planDepth n g) (planned n g) ≤ 2 ^ 24 = omega (arith, planned-few) in omega (arith, mul-le-mul few (p .pass .high))

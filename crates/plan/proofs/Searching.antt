@@ -16,43 +16,44 @@ use Rattle.node_info.proofs.Columns.{node-entry, subtree-entry}
 use Rattle.node_info.proofs.Growing.{Grown, grown-start, grown-turn}
 use Rattle.plan.specs.Steps.{Passed, Searched}
 use Rattle.plan.proofs.Depths.{Tried, tried-none, tried-next, level-low, searched-enough, searched-empty}
+use Rattle.node_info.specs.declared.Geometry.{Geometry}
 
-module _ (n rs ns ow : ℕ) where
+module _ (n : ℕ) (g : Geometry) where
   -- What the loop keeps: the table of depth u, and that each level below is too small and holds records.
   pub record Sought (w : ℕ) (t : NodeInfo) (u : ℕ) : Type 0 where
     pub low : u ≤ 23
-    pub grown : Grown ns rs ow w t u
-    pub tried : Tried n rs ns ow u
+    pub grown : Grown g w t u
+    pub tried : Tried n g u
 
-  pub sought-start : (t : NodeInfo) → t ≡ infoAt ns rs 0 0 → Sought (t .«max_nrec_size») t 0
-  sought-start t e = record { low = zero-le; grown = grown-start ns rs ow t e; tried = tried-none n rs ns ow }
+  pub sought-start : (t : NodeInfo) → t ≡ infoAt g 0 → Sought (t .«max_nrec_size») t 0
+  sought-start t e = record { low = zero-le; grown = grown-start g t e; tried = tried-none n g }
 
   module _ (w : ℕ) (t : NodeInfo) (u : ℕ) (sought : Sought w t u) where
-    all-is : getD (t .«cum_max_nrec») u 0 ≡ subtreeCapacity ns rs ow u
-    all-is = subtree-entry ns rs ow u t (sought .grown .2) u (le-refl u) (sought .grown .0)
+    all-is : getD (t .«cum_max_nrec») u 0 ≡ subtreeCapacity g u
+    all-is = subtree-entry g u t (sought .grown .2) u (le-refl u) (sought .grown .0)
 
-    most-is : getD (t .«max_nrec») u 0 ≡ nodeCapacity ns rs ow u
-    most-is = node-entry ns rs ow u t (sought .grown .2) u (le-refl u) (sought .grown .0)
+    most-is : getD (t .«max_nrec») u 0 ≡ nodeCapacity g u
+    most-is = node-entry g u t (sought .grown .2) u (le-refl u) (sought .grown .0)
 
     -- The level is enough.
-    pub sought-enough : n ≤ getD (t .«cum_max_nrec») u 0 → Searched n rs ns ow t u (leb n (getD (t .«cum_max_nrec») u 0))
+    pub sought-enough : n ≤ getD (t .«cum_max_nrec») u 0 → Searched n g t u (leb n (getD (t .«cum_max_nrec») u 0))
     sought-enough e =
-        let enough : n ≤ subtreeCapacity ns rs ow u = rw all-is at e in
-        rw (all-is, le-leb n (subtreeCapacity ns rs ow u) enough)
-        (searched-enough n rs ns ow u (sought .low) (sought .tried) t (sought .grown .2) enough)
+        let enough : n ≤ subtreeCapacity g u = rw all-is at e in
+        rw (all-is, le-leb n (subtreeCapacity g u) enough)
+        (searched-enough n g u (sought .low) (sought .tried) t (sought .grown .2) enough)
 
     -- It is too small: it holds none, or the search goes on.
     module _ (e : getD (t .«cum_max_nrec») u 0 < n) where
-      small : subtreeCapacity ns rs ow u < n
+      small : subtreeCapacity g u < n
       small = rw all-is at e
 
-      pub sought-empty : ltb 0 (getD (t .«max_nrec») u 0) ≡ false → Searched n rs ns ow t u (leb n (getD (t .«cum_max_nrec») u 0))
+      pub sought-empty : ltb 0 (getD (t .«max_nrec») u 0) ≡ false → Searched n g t u (leb n (getD (t .«cum_max_nrec») u 0))
       sought-empty b =
-          rw (all-is, lt-leb n (subtreeCapacity ns rs ow u) small)
-          (searched-empty n rs ns ow u (sought .low) (sought .tried) t (sought .grown .2) small (le-zero (ltb-false _ _ (rw most-is at b))))
+          rw (all-is, lt-leb n (subtreeCapacity g u) small)
+          (searched-empty n g u (sought .low) (sought .tried) t (sought .grown .2) small (le-zero (ltb-false _ _ (rw most-is at b))))
 
-      pub sought-turn : Passed n rs ns ow → ltb 0 (getD (t .«max_nrec») u 0) ≡ true → (l : Level)
-          → l ≡ levelAbove ns rs (pointerSize ow w (getD (t .«cum_max_nrec_size») u 0)) (getD (t .«cum_max_nrec») u 0)
+      pub sought-turn : Passed n g → ltb 0 (getD (t .«max_nrec») u 0) ≡ true → (l : Level)
+          → l ≡ levelAbove g (pointerSize g w (getD (t .«cum_max_nrec_size») u 0)) (getD (t .«cum_max_nrec») u 0)
           → Sought w
           (record {
             «max_nrec_size» = t .«max_nrec_size»;
@@ -62,10 +63,10 @@ module _ (n rs ns ow : ℕ) where
           })
           (u + 1)
       sought-turn pass b l h =
-          let some : 0 < nodeCapacity ns rs ow u = ltb-true _ _ (rw most-is at b) in
-          let low : u < 23 = level-low n rs ns ow pass u small some in
+          let some : 0 < nodeCapacity g u = ltb-true _ _ (rw most-is at b) in
+          let low : u < 23 = level-low n g pass u small some in
           record {
             low = omega arith;
-            grown = grown-turn ns rs ow w t u (sought .grown) l (omega arith) h;
-            tried = tried-next n rs ns ow u (sought .tried) small some;
+            grown = grown-turn g w t u (sought .grown) l (omega arith) h;
+            tried = tried-next n g u (sought .tried) small some;
           }

@@ -13,6 +13,7 @@ use Rattle.node_info.specs.declared.NodeInfo.{NodeInfo}
 use Rattle.plan.specs.Tree.{Kids, last, more, Tree, nodes, leaves}
 use Rattle.plan.specs.declared.PlanAnswer.{PlanAnswer}
 use Rattle.plan.specs.declared.PlanAnswer.the-variants.{Planned, Refused}
+use Rattle.node_info.specs.declared.Geometry.{Geometry}
 
 -- a / b, rounded up, for b above 0.
 abbrev pub ceilDiv : ℕ → ℕ → ℕ
@@ -55,33 +56,33 @@ unfoldable pub leastLevel : (ℕ → Bool) → ℕ → ℕ → ℕ
 leastLevel f zero u = u
 leastLevel f (suc k) u = let later = leastLevel f k (u + 1) in pick (f u) u later
 
-module _ (n rs ns ow : ℕ) where
+module _ (n : ℕ) (g : Geometry) where
   -- The depth of the planned tree: the least d with C(d) at least n. It is sought up to level 32; a plan that is accepted has 23 at most.
   unfoldable pub planDepth : ℕ
-  planDepth = leastLevel (λ u. leb n (subtreeCapacity ns rs ow u)) 32 0
+  planDepth = leastLevel (λ u. leb n (subtreeCapacity g u)) 32 0
 
   -- The first of the levels needed for it, 0 to the depth, whose nodes hold none (M = 0); one above the depth where each holds records.
   unfoldable pub emptyLevel : ℕ
-  emptyLevel = leastLevel (λ u. eqb (nodeCapacity ns rs ow u) 0) (planDepth + 1) 0
+  emptyLevel = leastLevel (λ u. eqb (nodeCapacity g u) 0) (planDepth + 1) 0
 
   -- The planned tree.
   unfoldable pub planned : Tree planDepth
-  planned = planTree (subtreeCapacity ns rs ow) planDepth n
+  planned = planTree (subtreeCapacity g) planDepth n
 
   -- Depth, node count, leaf count and image size.
   unfoldable pub planFigures : List ℕ
   planFigures =
-      planDepth ∷ nodes planDepth planned ∷ leaves planDepth planned ∷ nodes planDepth planned * ns ∷ []
+      planDepth ∷ nodes planDepth planned ∷ leaves planDepth planned ∷ nodes planDepth planned * g .«node_size» ∷ []
 
   -- The planner's answer: the refusals in their order, or the figures.
   unfoldable pub planAnswer : Answer
   planAnswer =
-      orElse (fieldSize ow) (refused 4 (ow ∷ []))
-      (orElse (leb 10 ns && leb ns 65536) (refused 7 (ns ∷ []))
-      (orElse (ltb 0 rs) (refused 8 [])
+      orElse (fieldSize (g .«offset_size»)) (refused 4 (g .«offset_size» ∷ []))
+      (orElse (leb 10 (g .«node_size») && leb (g .«node_size») 65536) (refused 7 (g .«node_size» ∷ []))
+      (orElse (ltb 0 (g .«record_size»)) (refused 8 [])
       (orElse (leb n 16777215) (refused 9 (n ∷ []))
       (orElse (eqb n 0 || ltb planDepth emptyLevel) (refused 10 (emptyLevel ∷ []))
-      (orElse (eqb n 0 || not (thin (subtreeCapacity ns rs ow) planDepth n)) (refused 11 []) (accepted planFigures))))))
+      (orElse (eqb n 0 || not (thin (subtreeCapacity g) planDepth n)) (refused 11 []) (accepted planFigures))))))
 
 -- The table where an answer accepts, and zeros where it refuses.
 abbrev pub tableIf : Answer → NodeInfo → NodeInfo
@@ -89,9 +90,9 @@ tableIf (accepted figures) t = t
 tableIf (refused number values) t = noInfo
 
 -- What a plan with its table is: the planner's answer, and the table of the plan's depth where that accepts.
-pub record Laid (n rs ns ow : ℕ) (answer : Answer) (info : NodeInfo) : Type 0 where
-  pub answered : answer ≡ planAnswer n rs ns ow
-  pub table : info ≡ tableIf (planAnswer n rs ns ow) (infoAt ns rs ow (planDepth n rs ns ow))
+pub record Laid (n : ℕ) (g : Geometry) (answer : Answer) (info : NodeInfo) : Type 0 where
+  pub answered : answer ≡ planAnswer n g
+  pub table : info ≡ tableIf (planAnswer n g) (infoAt g (planDepth n g))
 
 -- What the call's own answer says, in those terms.
 abbrev pub planAnswerOf : PlanAnswer → Answer

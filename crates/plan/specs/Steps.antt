@@ -10,22 +10,23 @@ use Rattle.node_info.specs.Table.{infoAt}
 use Rattle.node_info.specs.declared.NodeInfo.{NodeInfo}
 use Rattle.plan.specs.Tree.{nodes, leaves}
 use Rattle.plan.specs.Planned.{planTree, thin, planDepth, emptyLevel}
+use Rattle.node_info.specs.declared.Geometry.{Geometry}
 
 -- The numbers have passed refusals 4 and 7 to 9.
-pub record Passed (n rs ns ow : ℕ) : Type 0 where
-  pub offset : fieldSize ow ≡ true
-  pub low : 10 ≤ ns
-  pub high : ns ≤ 65536
-  pub some : 0 < rs
+pub record Passed (n : ℕ) (g : Geometry) : Type 0 where
+  pub offset : fieldSize (g .«offset_size») ≡ true
+  pub low : 10 ≤ g .«node_size»
+  pub high : g .«node_size» ≤ 65536
+  pub some : 0 < g .«record_size»
   pub few : n ≤ 16777215
 
 -- What the search for the depth has found: the depth where each level needed for it holds records, else the first that holds none; and
 -- the table up to that level.
-pub record Searched (n rs ns ow : ℕ) (info : NodeInfo) (level : ℕ) (enough : Bool) : Type 0 where
+pub record Searched (n : ℕ) (g : Geometry) (info : NodeInfo) (level : ℕ) (enough : Bool) : Type 0 where
   pub low : level ≤ 23
-  pub table : info ≡ infoAt ns rs ow level
-  pub tested : enough ≡ (eqb n 0 || ltb (planDepth n rs ns ow) (emptyLevel n rs ns ow))
-  pub found : level ≡ pick enough (planDepth n rs ns ow) (emptyLevel n rs ns ow)
+  pub table : info ≡ infoAt g level
+  pub tested : enough ≡ (eqb n 0 || ltb (planDepth n g) (emptyLevel n g))
+  pub found : level ≡ pick enough (planDepth n g) (emptyLevel n g)
 
 -- The capacity of each level's subtrees, out of the table's column.
 abbrev pub levelOf : List ℕ → ℕ → ℕ

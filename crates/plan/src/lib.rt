@@ -8,6 +8,7 @@ ghost use Rattle.refusal.specs.Answer.{refusalOf};
 ghost use Rattle.node_info.specs.Table.{noInfo};
 ghost use Rattle.plan.specs.Steps.{Passed, Searched, Countable, Counted};
 ghost use Rattle.plan.specs.Planned.{taken, planAnswer, planAnswerOf, Laid};
+use node_info::Geometry;
 use node_info::NodeInfo;
 use refusal::Refusal;
 
@@ -179,17 +180,17 @@ struct Deepened {
 }
 
 // The search for the depth: from the leaves up, until a level is enough, or holds none. It ends at level 23 at the latest.
-fn deepen(record_count: u64, record_size: u16, node_size: u32, offset_size: u8) -> Deepened
-    requires { ⌜ Passed «record_count» «record_size» «node_size» «offset_size» ⌝ }
-    ensures { λ r. ⌜ Searched «record_count» «record_size» «node_size» «offset_size» (r .info) (r .depth) (r .enough) ⌝ }
+fn deepen(record_count: u64, geometry: Geometry) -> Deepened
+    requires { ⌜ Passed «record_count» geometry ⌝ }
+    ensures { λ r. ⌜ Searched «record_count» geometry (r .info) (r .depth) (r .enough) ⌝ }
 {
-    let mut info = NodeInfo::leaf_only(node_size, record_size);
+    let mut info = NodeInfo::leaf_only(geometry);
     let count_size = info.max_nrec_size;
     let mut u = 0;
     while info.cum_max_nrec[u] < record_count && 0 < info.max_nrec[u] {
         let total = info.cum_max_nrec_size[u];
         let under = info.cum_max_nrec[u];
-        let level = node_info::level_above(node_size, record_size, offset_size, count_size, total, under);
+        let level = node_info::level_above(geometry, count_size, total, under);
         u += 1;
         info.cum_max_nrec_size[u] = level.total;
         info.max_nrec[u] = level.most;
@@ -204,16 +205,11 @@ fn deepen(record_count: u64, record_size: u16, node_size: u32, offset_size: u8) 
 }
 
 // The plan and its table, for numbers that have passed refusals 4 and 7 to 9. Whether a subtree is too thin is decided at the root.
-fn lay_out_passed(
-    record_count: u64,
-    record_size: u16,
-    node_size: u32,
-    offset_size: u8,
-) -> PlanAndTable
-    requires { ⌜ Passed «record_count» «record_size» «node_size» «offset_size» ⌝ }
-    ensures { λ r. ⌜ Laid «record_count» «record_size» «node_size» «offset_size» (planAnswerOf (r .answer)) (r .info) ⌝ }
+fn lay_out_passed(record_count: u64, geometry: Geometry) -> PlanAndTable
+    requires { ⌜ Passed «record_count» geometry ⌝ }
+    ensures { λ r. ⌜ Laid «record_count» geometry (planAnswerOf (r .answer)) (r .info) ⌝ }
 {
-    let deepened = deepen(record_count, record_size, node_size, offset_size);
+    let deepened = deepen(record_count, geometry);
     let depth = deepened.depth;
     if !deepened.enough {
         return PlanAndTable::refused(Refusal::LevelHoldsNone(depth));
@@ -227,7 +223,7 @@ fn lay_out_passed(
         depth,
         nodes: counts.nodes,
         leaves: counts.leaves,
-        image_size: counts.nodes * (node_size as u64),
+        image_size: counts.nodes * (geometry.node_size as u64),
     };
     PlanAndTable {
         answer: PlanAnswer::Planned(plan),
@@ -236,9 +232,11 @@ fn lay_out_passed(
 }
 
 // The plan and its table, or the first refusal.
-pub fn lay_out(record_count: u64, record_size: u16, node_size: u32, offset_size: u8) -> PlanAndTable
-    ensures { λ r. ⌜ Laid «record_count» «record_size» «node_size» «offset_size» (planAnswerOf (r .answer)) (r .info) ⌝ }
+pub fn lay_out(record_count: u64, geometry: Geometry) -> PlanAndTable
+    ensures { λ r. ⌜ Laid «record_count» geometry (planAnswerOf (r .answer)) (r .info) ⌝ }
 {
+    let offset_size = geometry.offset_size;
+    let node_size = geometry.node_size;
     if !numbers::is_field_size(offset_size) {
         return PlanAndTable::refused(Refusal::InvalidOffsetSize(offset_size));
     }
@@ -248,21 +246,21 @@ pub fn lay_out(record_count: u64, record_size: u16, node_size: u32, offset_size:
     if NODE_SIZE_MAX < node_size {
         return PlanAndTable::refused(Refusal::InvalidNodeSize(node_size));
     }
-    if record_size == 0 {
+    if geometry.record_size == 0 {
         return PlanAndTable::refused(Refusal::ZeroRecordSize);
     }
     if RECORDS_MAX < record_count {
         return PlanAndTable::refused(Refusal::TooManyRecords(record_count));
     }
-    lay_out_passed(record_count, record_size, node_size, offset_size)
+    lay_out_passed(record_count, geometry)
 }
 
 impl BTreeV2Plan {
     // The plan alone.
-    pub fn new(record_count: u64, record_size: u16, node_size: u32, offset_size: u8) -> PlanAnswer
-        ensures { λ r. ⌜ planAnswerOf r ≡ planAnswer «record_count» «record_size» «node_size» «offset_size» ⌝ }
+    pub fn new(record_count: u64, geometry: Geometry) -> PlanAnswer
+        ensures { λ r. ⌜ planAnswerOf r ≡ planAnswer «record_count» geometry ⌝ }
     {
-        let laid = lay_out(record_count, record_size, node_size, offset_size);
+        let laid = lay_out(record_count, geometry);
         laid.answer
     }
 }

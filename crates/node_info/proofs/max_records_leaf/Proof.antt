@@ -8,9 +8,10 @@ pub max-records-leaf-spec : {M : Type 1} → statement M
 max-records-leaf-spec =
     tie.close
     (tie.spec
-    (λ c. leaf-small _ _ (c .if1 .taken))
-    (λ c. leaf-no-size _ _ (c .if2 .taken))
+    (λ c. search leaf-small)
+    (λ c. search leaf-no-size)
     (λ c. search needs)
     (λ c. search needs)
     (λ c. search needs)
-    (λ c. leaf-is _ _))
+    (λ c. search needs)
+    (λ c. search leaf-is))

@@ -7,10 +7,10 @@ use Rattle.plan.proofs.deepen.Statement.{statement}
 use Rattle.plan.proofs.deepen.Tie as tie
 
 abbrev Inv-loop : tie.InvT-loop
-Inv-loop n rs ns ow info₀ countSize u₀ info u = Sought n rs ns ow countSize info u
+Inv-loop n g info₀ countSize u₀ info u = Sought n g countSize info u
 
 abbrev μ-loop : tie.MeasureT-loop
-μ-loop n rs ns ow info₀ countSize u₀ info u = 24 - u
+μ-loop n g info₀ countSize u₀ info u = 24 - u
 
 pub deepen-spec : {M : Type 1} → statement M
 deepen-spec =
@@ -19,7 +19,7 @@ deepen-spec =
     Inv-loop
     μ-loop
     (λ c κs. search needs)
-    (λ c. sought-start _ _ _ _ _ (c .leaf-only .ensures))
+    (λ c. sought-start _ _ _ (c .leaf-only .ensures))
     (λ c. search needs)
     (λ c. search needs)
     (λ c. search needs)
@@ -35,13 +35,10 @@ deepen-spec =
     (λ c. search needs)
     (λ c. search needs)
     (λ c. search needs)
-    (λ c.
-    let small = c .before .before .before .before .before in
-    let start = small .before .before in
-    sought-turn _ _ _ _ _ _ _ (start .loop .inv) (small .if1 .taken) (start .before .before .pre) (c .before .before .before .if2 .taken) _ (c .level-above .ensures))
+    (λ c. search sought-turn)
     (λ c. search needs)
     (λ c. search needs)
     (λ c. search needs)
     (λ c.
     let inv = c .before .before .before .loop .inv in
-    ⊎-elim (λ w. sought-empty _ _ _ _ _ _ _ inv (w .0 .taken) (w .2 .left)) (λ w. sought-enough _ _ _ _ _ _ _ inv (w .left)) (c .before .if1 .came)))
+    ⊎-elim (λ w. sought-empty _ _ _ _ _ inv (w .0 .taken) (w .2 .left)) (λ w. sought-enough _ _ _ _ _ inv (w .left)) (c .before .if1 .came)))

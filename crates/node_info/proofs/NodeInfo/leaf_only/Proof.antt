@@ -12,4 +12,4 @@ leaf-only-spec =
     (λ c κs. search needs)
     (λ c. search needs)
     (λ c. search needs)
-    (λ c. leaf-info _ _ _ _ (c .before .max-records-leaf .ensures) (c .bytes-for-max-records .ensures)))
+    (λ c. leaf-info _ _ _ (c .before .max-records-leaf .ensures) (c .bytes-for-max-records .ensures)))
