@@ -6,25 +6,28 @@ use native.Mathlib.Omega.{arith}
 use lib.ListN.{length, length-append}
 use Rattle.numbers.specs.Numbers.{le}
 use Rattle.numbers.proofs.Numbers.{le-length}
-use Rattle.format.specs.Bytes.{headerSignature, Form, summed, headerBytes}
-use Rattle.format.specs.Request.{Request, formOf, headerOf}
+use Rattle.format.specs.declared.Request.{Request}
+use Rattle.format.specs.Bytes.{headerSignature, headerSize, summed, headerBytes}
+use Rattle.format.specs.Request.{headerOf}
 
-module _ (g : Form) (lw depth root rootRecords n : ℕ) where
+module _ (q : Request) (depth root rootRecords n : ℕ) where
   -- The header's bytes from the node size on, and all but its checksum.
   abbrev pub fromSize : List ℕ
   fromSize =
-      le 4 (g .ns) ++ (le 2 (g .rs) ++ (le 2 depth ++ (100 ∷ 40 ∷ (le (g .ow) root ++ (le 2 rootRecords ++ le lw n)))))
+      le 4 (q .geometry .«node_size»)
+      ++ (le 2 (q .geometry .«record_size»)
+      ++ (le 2 depth ++ (100 ∷ 40 ∷ (le (q .geometry .«offset_size») root ++ (le 2 rootRecords ++ le (q .«length_size») n)))))
 
   abbrev pub unsummed : List ℕ
-  unsummed = headerSignature ++ (0 ∷ g .treeType ∷ fromSize)
+  unsummed = headerSignature ++ (0 ∷ q .«tree_type» ∷ fromSize)
 
-  pub length-unsummed : length unsummed ≡ 18 + g .ow + lw
+  pub length-unsummed : length unsummed ≡ 18 + q .geometry .«offset_size» + q .«length_size»
   length-unsummed = simp (length-append, le-length) (omega arith)
 
-  pub length-header : length (headerBytes g lw depth root rootRecords n) ≡ 22 + g .ow + lw
+  pub length-header : length (headerBytes q depth root rootRecords n) ≡ headerSize (q .geometry .«offset_size») (q .«length_size»)
   unfolding headerBytes summed
   length-header = simp (length-append, le-length) (omega arith)
 
-pub length-headerOf : (q : Request) → length (headerOf q) ≡ 22 + q .ow + q .lw
-unfolding headerOf formOf
-length-headerOf q = length-header (formOf q) (q .lw) _ _ _ _
+pub length-headerOf : (q : Request) → length (headerOf q) ≡ headerSize (q .geometry .«offset_size») (q .«length_size»)
+unfolding headerOf
+length-headerOf q = length-header q _ _ _ _

@@ -5,7 +5,10 @@ use mathlib.Core.List.{List, [], _∷_, _++_}
 use lib.ListN.{length, replicate}
 use Rattle.checksum.specs.Lookup3.{lookup3}
 use Rattle.numbers.specs.Numbers.{le, part}
+use Rattle.node_info.specs.declared.Geometry.{Geometry}
+use Rattle.node_info.specs.Capacity.{countWidth, totalWidth}
 use Rattle.plan.specs.Tree.{Kids, last, more, Tree, count, size, below, nodes}
+use Rattle.format.specs.declared.Request.{Request}
 
 -- The signatures `BTHD`, `BTLF` and `BTIN`.
 abbrev pub headerSignature : List ℕ
@@ -17,15 +20,17 @@ leafSignature = 66 ∷ 84 ∷ 76 ∷ 70 ∷ []
 abbrev pub internalSignature : List ℕ
 internalSignature = 66 ∷ 84 ∷ 73 ∷ 78 ∷ []
 
--- What all nodes of a tree share: tree type, node size, record size, offset size, the width of a record count, and the width of the total
--- of a subtree by the level of its root.
-pub record Form : Type 0 where
-  pub treeType : ℕ
-  pub ns : ℕ
-  pub rs : ℕ
-  pub ow : ℕ
-  pub cw : ℕ
-  pub tw : ℕ → ℕ
+-- The bytes of a node before its records: signature, version, type.
+abbrev pub prefixSize : ℕ
+prefixSize = 6
+
+-- The place in a node where n records of rs bytes end.
+abbrev pub recordsEnd : ℕ → ℕ → ℕ
+recordsEnd rs n = prefixSize + n * rs
+
+-- The bytes of a header with offsets and lengths of these sizes.
+abbrev pub headerSize : ℕ → ℕ → ℕ
+headerSize ow lw = 22 + ow + lw
 
 -- Bytes with their checksum after them.
 unfoldable pub summed : List ℕ → List ℕ
@@ -35,27 +40,28 @@ summed b = b ++ le 4 (lookup3 b)
 unfoldable pub padded : ℕ → List ℕ → List ℕ
 padded ns b = summed b ++ replicate (ns - length (summed b)) 0
 
--- The bytes of a child pointer: address, record count, and total where its width is not 0.
-unfoldable pub pointerBytes : Form → ℕ → ℕ → ℕ → ℕ → List ℕ
-pointerBytes g d address records total = le (g .ow) address ++ (le (g .cw) records ++ le (g .tw d) total)
+-- The bytes of a pointer to a child of level d: address, record count, and total where its width is not 0.
+unfoldable pub pointerBytes : Geometry → ℕ → ℕ → ℕ → ℕ → List ℕ
+pointerBytes g d address records total =
+    le (g .«offset_size») address ++ (le (countWidth g) records ++ le (totalWidth g d) total)
 
--- The address of node j where node 0 is at start.
-unfoldable pub address : Form → ℕ → ℕ → ℕ
-address g start j = start + j * g .ns
+-- The address of node j of a write.
+unfoldable pub address : Request → ℕ → ℕ
+address q j = q .start + j * q .geometry .«node_size»
 
--- The tree of the records recs, its nodes from address start on.
-module _ (g : Form) (start : ℕ) (recs : List ℕ) where
+-- The nodes of a write of the records recs.
+module _ (q : Request) (recs : List ℕ) where
   -- Records r to r + n - 1 of the list.
   unfoldable pub recordRange : ℕ → ℕ → List ℕ
-  recordRange r n = part recs (r * g .rs) (n * g .rs)
+  recordRange r n = part recs (r * q .geometry .«record_size») (n * q .geometry .«record_size»)
 
   -- A leaf of n records, the first of them record r.
   unfoldable pub leafBytes : ℕ → ℕ → List ℕ
-  leafBytes n r = leafSignature ++ (0 ∷ g .treeType ∷ recordRange r n)
+  leafBytes n r = leafSignature ++ (0 ∷ q .«tree_type» ∷ recordRange r n)
 
   -- The pointer to a subtree of depth d whose first node is node j.
   unfoldable pub pointer : (d : ℕ) → Tree d → ℕ → List ℕ
-  pointer d t j = pointerBytes g d (address g start (j + below d t)) (count d t) (size d t)
+  pointer d t j = pointerBytes (q .geometry) d (address q (j + below d t)) (count d t) (size d t)
 
   -- The pointers to the children, of depth d; the first node below is node j.
   unfoldable pub pointers : (d : ℕ) → Kids (Tree d) → ℕ → List ℕ
@@ -69,7 +75,7 @@ module _ (g : Form) (start : ℕ) (recs : List ℕ) where
 
   -- An internal node whose children have depth d; its first node below is node j, its first record below record r.
   unfoldable pub internalBytes : (d : ℕ) → Kids (Tree d) → ℕ → ℕ → List ℕ
-  internalBytes d ts j r = internalSignature ++ (0 ∷ g .treeType ∷ (ownRecords d ts r ++ pointers d ts j))
+  internalBytes d ts j r = internalSignature ++ (0 ∷ q .«tree_type» ∷ (ownRecords d ts r ++ pointers d ts j))
 
   -- The nodes of the children, one child after another, each made by f.
   unfoldable pub kidsImage : (d : ℕ) → (Tree d → ℕ → ℕ → List ℕ) → Kids (Tree d) → ℕ → ℕ → List ℕ
@@ -78,16 +84,17 @@ module _ (g : Form) (start : ℕ) (recs : List ℕ) where
 
   -- The nodes of a tree, children first, its root last; the first node is node j, the first record record r.
   unfoldable pub image : (d : ℕ) → Tree d → ℕ → ℕ → List ℕ
-  image zero n j r = padded (g .ns) (leafBytes n r)
-  image (suc d) ts j r = kidsImage d (image d) ts j r ++ padded (g .ns) (internalBytes d ts j r)
+  image zero n j r = padded (q .geometry .«node_size») (leafBytes n r)
+  image (suc d) ts j r = kidsImage d (image d) ts j r ++ padded (q .geometry .«node_size») (internalBytes d ts j r)
 
 -- The header's bytes: split percent 100, merge percent 40.
-unfoldable pub headerBytes : Form → ℕ → ℕ → ℕ → ℕ → ℕ → List ℕ
-headerBytes g lw depth root rootRecords n =
+unfoldable pub headerBytes : Request → ℕ → ℕ → ℕ → ℕ → List ℕ
+headerBytes q depth root rootRecords n =
     summed
     (headerSignature
     ++ (0
-    ∷ g .treeType
-    ∷ (le 4 (g .ns)
-    ++ (le 2 (g .rs)
-    ++ (le 2 depth ++ (100 ∷ 40 ∷ (le (g .ow) root ++ (le 2 rootRecords ++ le lw n))))))))
+    ∷ q .«tree_type»
+    ∷ (le 4 (q .geometry .«node_size»)
+    ++ (le 2 (q .geometry .«record_size»)
+    ++ (le 2 depth
+    ++ (100 ∷ 40 ∷ (le (q .geometry .«offset_size») root ++ (le 2 rootRecords ++ le (q .«length_size») n))))))))

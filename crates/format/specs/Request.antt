@@ -1,50 +1,33 @@
 -- The bytes that a write of a request makes: its nodes, its root and its header. From document 01, "Header and node image".
 use Prim.Native.Nat.{ℕ, _-_}
 use mathlib.Core.List.{List}
-use Rattle.node_info.specs.Capacity.{countWidth, totalWidth}
-use Rattle.plan.specs.Tree.{count, below, nodes}
-use Rattle.plan.specs.Planned.{planDepth, planned}
-use Rattle.format.specs.Bytes.{Form, address, image, headerBytes}
-
--- The numbers that the call is given.
-pub record Request : Type 0 where
-  pub treeType : ℕ
-  pub n : ℕ
-  pub rs : ℕ
-  pub ns : ℕ
-  pub ow : ℕ
-  pub lw : ℕ
-  pub start : ℕ
-
--- The form of the nodes.
-unfoldable pub formOf : Request → Form
-formOf q =
-    record {
-      treeType = q .treeType;
-      ns = q .ns;
-      rs = q .rs;
-      ow = q .ow;
-      cw = countWidth (q .ns) (q .rs);
-      tw = totalWidth (q .ns) (q .rs) (q .ow);
-    }
+use Rattle.plan.specs.Tree.{Tree, count, below, nodes}
+use Rattle.plan.specs.Planned as planner
+use Rattle.format.specs.Bytes.{address, image, headerBytes}
+use Rattle.format.specs.declared.Request.{Request}
 
 module _ (q : Request) where
-  -- The plan's depth, its number of nodes, and the bytes of the image and of the header.
+  -- The planned tree, its depth and its number of nodes.
   abbrev pub depthOf : ℕ
-  depthOf = planDepth (q .n) (q .rs) (q .ns) (q .ow)
+  depthOf = planner.planDepth (q .«record_count») (q .geometry)
+
+  abbrev pub treeOf : Tree depthOf
+  treeOf = planner.planned (q .«record_count») (q .geometry)
 
   unfoldable pub nodesOf : ℕ
-  nodesOf = nodes depthOf (planned (q .n) (q .rs) (q .ns) (q .ow))
+  nodesOf = nodes depthOf treeOf
 
+  -- The bytes of the image.
   unfoldable pub imageOf : List ℕ → List ℕ
-  imageOf recs = image (formOf q) (q .start) recs depthOf (planned (q .n) (q .rs) (q .ns) (q .ow)) 0 0
+  imageOf recs = image q recs depthOf treeOf 0 0
 
   -- The address of the root, the plan's last node, and its record count.
   unfoldable pub rootOf : ℕ
-  rootOf = address (formOf q) (q .start) (below depthOf (planned (q .n) (q .rs) (q .ns) (q .ow)))
+  rootOf = address q (below depthOf treeOf)
 
   unfoldable pub rootRecordsOf : ℕ
-  rootRecordsOf = count depthOf (planned (q .n) (q .rs) (q .ns) (q .ow))
+  rootRecordsOf = count depthOf treeOf
 
+  -- The bytes of the header.
   unfoldable pub headerOf : List ℕ
-  headerOf = headerBytes (formOf q) (q .lw) depthOf rootOf rootRecordsOf (q .n)
+  headerOf = headerBytes q depthOf rootOf rootRecordsOf (q .«record_count»)

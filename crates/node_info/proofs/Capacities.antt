@@ -7,7 +7,7 @@ use native.Mathlib.Omega.{arith}
 use lib.Arith.{mul-pred}
 use Rattle.numbers.specs.Numbers.{saturated, width}
 use Rattle.numbers.proofs.Numbers.{width-le, width-holds, width-mono, saturated-mono, saturated-add, saturated-mul}
-use Rattle.node_info.specs.Capacity.{leafCapacity, countWidth, subtree, pointerSize, internalCapacity, subtreeCapacity, totalWidth, nodeCapacity}
+use Rattle.node_info.specs.Capacity.{leafCapacity, countWidth, subtree, childPointerSize, internalCapacity, subtreeCapacity, totalWidth, nodeCapacity}
 use Rattle.node_info.specs.declared.Geometry.{Geometry}
 
 -- From one level to the next, so from a level to any above it.
@@ -57,7 +57,7 @@ module _ (g : Geometry) where
   unfolding totalWidth
   total-zero = refl
 
-  pub node-suc : (u : ℕ) → nodeCapacity g (suc u) ≡ internalCapacity g (pointerSize g (countWidth g) (totalWidth g u))
+  pub node-suc : (u : ℕ) → nodeCapacity g (suc u) ≡ internalCapacity g (childPointerSize g (countWidth g) (totalWidth g u))
   unfolding nodeCapacity
   node-suc u = refl
 
@@ -109,10 +109,10 @@ module _ (g : Geometry) where
   leaf-bytes n p h = omega (arith, mul-le-mul-right (g .«record_size») h, div-mul-le-self (g .«node_size» - 10) (g .«record_size»))
 
   pub internal-bytes : (u n : ℕ) → 0 < nodeCapacity g (suc u) → n ≤ nodeCapacity g (suc u)
-      → 10 + n * g .«record_size» + (n + 1) * pointerSize g (countWidth g) (totalWidth g u) ≤ g .«node_size»
+      → 10 + n * g .«record_size» + (n + 1) * childPointerSize g (countWidth g) (totalWidth g u) ≤ g .«node_size»
   unfolding nodeCapacity internalCapacity
   internal-bytes u n p h =
-      let t = pointerSize g (countWidth g) (totalWidth g u) in
+      let t = childPointerSize g (countWidth g) (totalWidth g u) in
       let room : n * (g .«record_size» + t) ≤ g .«node_size» - 10 - t =
       le-trans (mul-le-mul-right (g .«record_size» + t) h) (div-mul-le-self (g .«node_size» - 10 - t) (g .«record_size» + t)) in
       rw (add-mul, one-mul) (omega (arith, pos-of-div-pos (g .«record_size» + t) p, rw mul-add at room))
@@ -121,7 +121,7 @@ module _ (g : Geometry) where
   -- or more make C at least a power, as far as it is not saturated.
   module _ (pos : 0 < g .«record_size») where
     node-down : (u : ℕ) → nodeCapacity g (suc u) ≤ nodeCapacity g u
-    unfolding nodeCapacity internalCapacity leafCapacity pointerSize
+    unfolding nodeCapacity internalCapacity leafCapacity childPointerSize
     node-down zero = div-le _ _ pos (sub-le _ _) (omega arith)
     node-down (suc u) = div-le _ _ (omega arith) (omega (arith, total-up u)) (omega (arith, total-up u))
 

@@ -10,7 +10,7 @@ use lib.ListN.{getD, set, replicate}
 use borrow.Author.Tests.{le-leb, lt-leb}
 use Rattle.numbers.specs.Numbers.{pick, width}
 use Rattle.refusal.specs.Answer.{accepted, refused}
-use Rattle.node_info.specs.Capacity.{leafCapacity, countWidth, subtree, pointerSize, internalCapacity, subtreeCapacity, totalWidth, nodeCapacity}
+use Rattle.node_info.specs.Capacity.{leafCapacity, countWidth, subtree, childPointerSize, internalCapacity, subtreeCapacity, totalWidth, nodeCapacity}
 use Rattle.node_info.specs.Table.{columnFrom, column, infoAt, levelAbove, noInfo, tabled}
 use Rattle.node_info.specs.declared.NodeInfo.{NodeInfo}
 use Rattle.node_info.specs.declared.Level.{Level}
@@ -51,8 +51,8 @@ module _ (g : Geometry) where
 
   -- The level above.
   pub level-is : (w t c m a x : ℕ) → m ≡ internalCapacity g (g .«offset_size» + w + t) → a ≡ subtree m c → x ≡ width a
-      → _≡_ {A = Level} (record { most = m; all = a; total = x }) (levelAbove g (pointerSize g w t) c)
-  unfolding levelAbove pointerSize
+      → _≡_ {A = Level} (record { most = m; all = a; total = x }) (levelAbove g (childPointerSize g w t) c)
+  unfolding levelAbove childPointerSize
   level-is w t c m a x hm ha hx = rw (hx, ha, hm)
 
   -- The table of the leaves alone.
@@ -87,7 +87,7 @@ module _ (g : Geometry) where
 
   module _ (w : ℕ) (t : NodeInfo) (u : ℕ) (grown : Grown w t u) where
     pub grown-turn : (l : Level) → u < 32
-        → l ≡ levelAbove g (pointerSize g w (getD (t .«cum_max_nrec_size») u 0)) (getD (t .«cum_max_nrec») u 0)
+        → l ≡ levelAbove g (childPointerSize g w (getD (t .«cum_max_nrec_size») u 0)) (getD (t .«cum_max_nrec») u 0)
         → Grown w
         (record {
           «max_nrec_size» = t .«max_nrec_size»;

@@ -22,8 +22,8 @@ abbrev pub subtree : ℕ → ℕ → ℕ
 subtree m c = saturated ((m + 1) * c + m)
 
 -- P(u) of a level whose child pointers have record counts of w = W bytes and totals of t = T(u - 1).
-unfoldable pub pointerSize : Geometry → ℕ → ℕ → ℕ
-pointerSize g w t = g .«offset_size» + w + t
+unfoldable pub childPointerSize : Geometry → ℕ → ℕ → ℕ
+childPointerSize g w t = g .«offset_size» + w + t
 
 -- M(u) of a level whose child pointers have p = P(u) bytes.
 unfoldable pub internalCapacity : Geometry → ℕ → ℕ
@@ -35,13 +35,17 @@ module _ (g : Geometry) where
   subtreeCapacity zero = leafCapacity g
   subtreeCapacity (suc u) =
       let c = subtreeCapacity u in
-      subtree (internalCapacity g (pointerSize g (countWidth g) (widthOfTotal u c))) c
+      subtree (internalCapacity g (childPointerSize g (countWidth g) (widthOfTotal u c))) c
 
   -- T(u): the width of the total of a subtree whose root is of level u.
   unfoldable pub totalWidth : ℕ → ℕ
   totalWidth u = widthOfTotal u (subtreeCapacity u)
 
+  -- P(u + 1): the bytes of a pointer to a child of level u.
+  abbrev pub pointerSizeTo : ℕ → ℕ
+  pointerSizeTo u = childPointerSize g (countWidth g) (totalWidth u)
+
   -- M(u): the records that a node of level u holds.
   unfoldable pub nodeCapacity : ℕ → ℕ
   nodeCapacity zero = leafCapacity g
-  nodeCapacity (suc u) = internalCapacity g (pointerSize g (countWidth g) (totalWidth u))
+  nodeCapacity (suc u) = internalCapacity g (pointerSizeTo u)

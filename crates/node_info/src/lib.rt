@@ -3,7 +3,7 @@
 ghost use mathlib.Core.Path.{_≡_};
 ghost use lib.Dec.{leb};
 ghost use Rattle.numbers.specs.Numbers.{pick};
-ghost use Rattle.node_info.specs.Capacity.{leafCapacity, pointerSize, internalCapacity};
+ghost use Rattle.node_info.specs.Capacity.{leafCapacity, childPointerSize, internalCapacity};
 ghost use Rattle.node_info.specs.Table.{infoAt, levelAbove, noInfo, tabled, tableAnswer};
 use refusal::Refusal;
 use refusal::Verdict;
@@ -71,7 +71,7 @@ fn max_records_internal(geometry: Geometry, pointer: u16) -> u64
 
 // The entries of the level above one whose subtrees hold `under` records, where a child pointer's count and total have these sizes.
 pub fn level_above(geometry: Geometry, count_size: u8, total_size: u8, under: u64) -> Level
-    ensures { λ r. ⌜ r ≡ levelAbove geometry (pointerSize geometry «count_size» «total_size») under ⌝ }
+    ensures { λ r. ⌜ r ≡ levelAbove geometry (childPointerSize geometry «count_size» «total_size») under ⌝ }
 {
     let pointer = (geometry.offset_size as u16) + (count_size as u16) + (total_size as u16);
     let most = max_records_internal(geometry, pointer);

@@ -8,7 +8,7 @@ use lib.Arith.{le-zero}
 use lib.Dec.{leb, ltb}
 use lib.ListN.{getD, set}
 use borrow.Author.Tests.{ltb-true, ltb-false, le-leb, lt-leb}
-use Rattle.node_info.specs.Capacity.{pointerSize, subtreeCapacity, nodeCapacity}
+use Rattle.node_info.specs.Capacity.{childPointerSize, subtreeCapacity, nodeCapacity}
 use Rattle.node_info.specs.Table.{infoAt, levelAbove}
 use Rattle.node_info.specs.declared.NodeInfo.{NodeInfo}
 use Rattle.node_info.specs.declared.Level.{Level}
@@ -53,7 +53,7 @@ module _ (n : ℕ) (g : Geometry) where
           (searched-empty n g u (sought .low) (sought .tried) t (sought .grown .2) small (le-zero (ltb-false _ _ (rw most-is at b))))
 
       pub sought-turn : Passed n g → ltb 0 (getD (t .«max_nrec») u 0) ≡ true → (l : Level)
-          → l ≡ levelAbove g (pointerSize g w (getD (t .«cum_max_nrec_size») u 0)) (getD (t .«cum_max_nrec») u 0)
+          → l ≡ levelAbove g (childPointerSize g w (getD (t .«cum_max_nrec_size») u 0)) (getD (t .«cum_max_nrec») u 0)
           → Sought w
           (record {
             «max_nrec_size» = t .«max_nrec_size»;

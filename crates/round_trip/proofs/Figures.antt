@@ -5,7 +5,7 @@ use Prim.Native.Nat.{ℕ}
 use Rattle.checksum.proofs.Promise.{computed}
 use Rattle.numbers.specs.Numbers.{fieldSize, width, leastFrom, le}
 use Rattle.refusal.specs.Answer.{cells}
-use Rattle.node_info.specs.Capacity.{leafCapacity, countWidth, pointerSize, internalCapacity, subtreeCapacity, totalWidth, nodeCapacity}
+use Rattle.node_info.specs.Capacity.{leafCapacity, countWidth, childPointerSize, internalCapacity, subtreeCapacity, totalWidth, nodeCapacity}
 use Rattle.node_info.specs.Table.{columnFrom, column, infoAt}
 use Rattle.plan.specs.Tree.{sumKids, between, count, size, below, nodes, leaves}
 use Rattle.plan.specs.Planned.{taken, distributed, children, kidsOf, planTree, anyOf, thin, leastLevel, planDepth, emptyLevel, planned, planFigures, planAnswer}
@@ -16,6 +16,6 @@ use Rattle.round_trip.specs.Figures.{betweenFrom, rootRecords, plan, hea
 
 pub figures-hold : map (λ (r : List ℕ × List ℕ). r .0) figures ≡ map (λ (r : List ℕ × List ℕ). r .1) figures
 unfolding computed le summed address headerBytes formOf rootOf rootRecordsOf headerOf headerSize count fieldSize width leastFrom cells
-    leafCapacity countWidth pointerSize internalCapacity subtreeCapacity totalWidth nodeCapacity columnFrom column infoAt
+    leafCapacity countWidth childPointerSize internalCapacity subtreeCapacity totalWidth nodeCapacity columnFrom column infoAt
     sumKids between size below nodes leaves taken distributed children kidsOf planTree anyOf thin leastLevel planDepth emptyLevel planned planFigures planAnswer joinKids counts betweenFrom rootRecords plan figures
 figures-hold = refl

@@ -27,11 +27,11 @@ pub record Accepts (q : Request) (recs : List ℕ) : Type 0 where
   pub count : q .n ≤ 2 ^ (8 * q .lw) - 1
   pub end : q .start + nodesOf q * q .ns ≤ 2 ^ (8 * q .ow) - 1
 
--- A test that a refusal follows has saturated where the answer accepts.
-saturated-test : (b : Bool) (number : ℕ) (values figures : List ℕ) (rest : Answer) → orElse b (refused number values) rest ≡ accepted figures
+-- A test that a refusal follows held where the answer accepts.
+test-passed : (b : Bool) (number : ℕ) (values figures : List ℕ) (rest : Answer) → orElse b (refused number values) rest ≡ accepted figures
     → (b ≡ true) × (rest ≡ accepted figures)
-saturated-test true number values figures rest e = (refl, e)
-saturated-test false number values figures rest e = (cc, cc)
+test-passed true number values figures rest e = (refl, e)
+test-passed false number values figures rest e = (cc, cc)
 
 go-on : (p : Answer) (rest : Answer) (figures : List ℕ) → onAccepted p rest ≡ accepted figures
     → ((f : List ℕ) × (p ≡ accepted f)) × (rest ≡ accepted figures)
@@ -47,14 +47,14 @@ passes : (q : Request) (recs hdr img figures : List ℕ) → written q recs hdr 
     → Accepts q recs × Roomy q hdr img × (planAnswer (q .n) (q .rs) (q .ns) (q .ow) ≡ accepted figures)
 unfolding written writeAnswer
 passes q recs hdr img figures e =
-    let a = saturated-test (fieldSize (q .ow)) _ _ _ _ e in
-    let b = saturated-test (fieldSize (q .lw)) _ _ _ _ (a .1) in
+    let a = test-passed (fieldSize (q .ow)) _ _ _ _ e in
+    let b = test-passed (fieldSize (q .lw)) _ _ _ _ (a .1) in
     let p = go-on (planAnswer (q .n) (q .rs) (q .ns) (q .ow)) _ _ (b .1) in
-    let r = saturated-test (eqb (length recs) (q .n * q .rs)) _ _ _ _ (p .1) in
-    let c = saturated-test (leb (q .n) (2 ^ (8 * q .lw) - 1)) _ _ _ _ (r .1) in
-    let x = saturated-test (leb (q .start + nodesOf q * q .ns) (2 ^ (8 * q .ow) - 1)) _ _ _ _ (c .1) in
-    let h = saturated-test (leb (22 + q .ow + q .lw) (length hdr)) _ _ _ _ (x .1) in
-    let i = saturated-test (leb (nodesOf q * q .ns) (length img)) _ _ _ _ (h .1) in (
+    let r = test-passed (eqb (length recs) (q .n * q .rs)) _ _ _ _ (p .1) in
+    let c = test-passed (leb (q .n) (2 ^ (8 * q .lw) - 1)) _ _ _ _ (r .1) in
+    let x = test-passed (leb (q .start + nodesOf q * q .ns) (2 ^ (8 * q .ow) - 1)) _ _ _ _ (c .1) in
+    let h = test-passed (leb (22 + q .ow + q .lw) (length hdr)) _ _ _ _ (x .1) in
+    let i = test-passed (leb (nodesOf q * q .ns) (length img)) _ _ _ _ (h .1) in (
       record {
         figures = p .0 .0;
         offset = a .0;

@@ -5,7 +5,7 @@ use Prim.Native.Nat.{ℕ, zero, suc, _*_, _≤_, _<_}
 use native.Mathlib.Nat.{le-refl, le-trans, zero-add, mul-le-mul-left}
 use native.Mathlib.Omega.{arith}
 use lib.ListN.{length}
-use Rattle.node_info.specs.Capacity.{leafCapacity, subtreeCapacity, nodeCapacity, pointerSize}
+use Rattle.node_info.specs.Capacity.{leafCapacity, subtreeCapacity, nodeCapacity, childPointerSize}
 use Rattle.node_info.proofs.Capacities.{node-le-leaf, count-fits, total-fits, leaf-bytes, internal-bytes}
 use Rattle.plan.specs.Tree.{Tree, count, size, Everywhere}
 use Rattle.plan.specs.Planned.{planned}
@@ -45,7 +45,7 @@ module _ (q : Request) where
     positive = omega arith
 
     node-fits : (u : ℕ) (t : Tree u) → Held u t → 1 ≤ count u t → nodeLength (formOf q) u (count u t) ≤ q .ns
-    unfolding formOf pointerSize
+    unfolding formOf childPointerSize
     node-fits zero t w f = leaf-bytes (q .ns) (q .rs) (q .ow) (count 0 t) low (w .0)
     node-fits (suc u) t w f = internal-bytes (q .ns) (q .rs) (q .ow) u (count (suc u) t) (omega arith) (w .0)
 
