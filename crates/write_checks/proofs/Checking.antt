@@ -12,6 +12,7 @@ use Rattle.refusal.specs.declared.Verdict.{Verdict}
 use Rattle.refusal.specs.declared.Verdict.the-variants as verdict
 use Rattle.refusal.specs.Answer.{Answer, accepted, refused, refusalOf, verdictOf, orElse}
 use Rattle.refusal.proofs.Answers.{refused-is}
+use Rattle.node_info.specs.declared.Geometry.{Geometry}
 use Rattle.node_info.specs.declared.NodeInfo.{NodeInfo}
 use Rattle.node_info.specs.Table.{noInfo}
 use Rattle.plan.specs.declared.BTreeV2Plan.{BTreeV2Plan}
@@ -19,7 +20,9 @@ use Rattle.plan.specs.declared.PlanAnswer.{PlanAnswer}
 use Rattle.plan.specs.declared.PlanAnswer.the-variants as plan-answer
 use Rattle.plan.specs.Planned.{planFigures, planAnswer, planAnswerOf, Laid}
 use Rattle.plan.proofs.Checks.{Plannable, accepted-plannable}
-use Rattle.format.specs.Request.{Request, nodesOf}
+use Rattle.format.specs.Bytes.{headerSize}
+use Rattle.format.specs.declared.Request.{Request}
+use Rattle.format.specs.Request.{nodesOf}
 use Rattle.write_checks.specs.Writing.{writeAnswer}
 use Rattle.write_checks.specs.declared.Lengths.{Lengths}
 use Rattle.write_checks.specs.Tests.{lengthAnswer, Checked}
@@ -51,16 +54,16 @@ pub size-passed : (w : ℕ) {b : Bool} → b ≡ fieldSize w → not b ≡ false
 size-passed w {b} h e = sym h ∙ not-false b e
 
 -- What a plan that was made says of its numbers.
-module _ (n rs ns ow : ℕ) (p : BTreeV2Plan) (x : PlanAnswer) (i : NodeInfo) (is : x ≡ plan-answer.Planned p)
-    (laid : Laid n rs ns ow (planAnswerOf x) i) where
+module _ (n : ℕ) (g : Geometry) (p : BTreeV2Plan) (x : PlanAnswer) (i : NodeInfo) (is : x ≡ plan-answer.Planned p)
+    (laid : Laid n g (planAnswerOf x) i) where
   abbrev figures : List ℕ
   figures = p .depth ∷ p .nodes ∷ p .leaves ∷ p .«image_size» ∷ []
 
-  planned-is : planAnswer n rs ns ow ≡ accepted figures
+  planned-is : planAnswer n g ≡ accepted figures
   planned-is = sym (laid .answered) ∙ ap planAnswerOf is
 
-  known : Plannable n rs ns ow × (figures ≡ planFigures n rs ns ow)
-  known = accepted-plannable n rs ns ow figures planned-is
+  known : Plannable n g × (figures ≡ planFigures n g)
+  known = accepted-plannable n g figures planned-is
 
   pub records-few : n < 2 ^ 24
   records-few = omega (arith, known .0 .pass)
@@ -72,39 +75,44 @@ module _ (q : Request) (l : Lengths) where
   refused-checked : (a : Answer) (i : NodeInfo) (n : ℕ) (v : List ℕ) → answer ≡ refused n v → (a ≡ refused n v) × (i ≡ noInfo) → Checked q l a i
   refused-checked a i n v e out = record { answered = out .0 ∙ sym e; table = rw e (out .1) }
 
-  module _ (b : Bool) (ow : b ≡ fieldSize (q .ow)) where
-    pub checked-4 : (a : Answer) (i : NodeInfo) → not b ≡ true → (a ≡ refused 4 (q .ow ∷ [])) × (i ≡ noInfo) → Checked q l a i
+  module _ (b : Bool) (ow : b ≡ fieldSize (q .geometry .«offset_size»)) where
+    pub checked-4 : (a : Answer) (i : NodeInfo) → not b ≡ true → (a ≡ refused 4 (q .geometry .«offset_size» ∷ [])) × (i ≡ noInfo) → Checked q l a i
     unfolding writeAnswer
-    checked-4 a i t out = refused-checked a i 4 (q .ow ∷ []) (rw (← ow, not-true b t)) out
+    checked-4 a i t out = refused-checked a i 4 (q .geometry .«offset_size» ∷ []) (rw (← ow, not-true b t)) out
 
-    module _ (four : not b ≡ false) (d : Bool) (lw : d ≡ fieldSize (q .lw)) where
-      pub checked-5 : (a : Answer) (i : NodeInfo) → not d ≡ true → (a ≡ refused 5 (q .lw ∷ [])) × (i ≡ noInfo) → Checked q l a i
+    module _ (four : not b ≡ false) (d : Bool) (lw : d ≡ fieldSize (q .«length_size»)) where
+      pub checked-5 : (a : Answer) (i : NodeInfo) → not d ≡ true → (a ≡ refused 5 (q .«length_size» ∷ [])) × (i ≡ noInfo) → Checked q l a i
       unfolding writeAnswer
-      checked-5 a i t out = refused-checked a i 5 (q .lw ∷ []) (rw (size-passed (q .ow) ow four, ← lw, not-true d t)) out
+      checked-5 a i t out = refused-checked a i 5 (q .«length_size» ∷ []) (rw (size-passed (q .geometry .«offset_size») ow four, ← lw, not-true d t)) out
 
-      module _ (five : not d ≡ false) (x : PlanAnswer) (i : NodeInfo) (laid : Laid (q .n) (q .rs) (q .ns) (q .ow) (planAnswerOf x) i) where
+      module _ (five : not d ≡ false) (x : PlanAnswer) (i : NodeInfo) (laid : Laid (q .«record_count») (q .geometry) (planAnswerOf x) i) where
         -- The plan is refused.
         pub checked-plan : (r : Refusal) → x ≡ plan-answer.Refused r → Checked q l (planAnswerOf x) i
         unfolding writeAnswer
         checked-plan r is =
             let s = refused-is r in
             let e : planAnswerOf x ≡ refused (s .0) (s .1) = ap planAnswerOf is ∙ s .2 in
-            let p : planAnswer (q .n) (q .rs) (q .ns) (q .ow) ≡ refused (s .0) (s .1) = sym (laid .answered) ∙ e in
-            refused-checked (planAnswerOf x) i (s .0) (s .1) (rw (size-passed (q .ow) ow four, size-passed (q .lw) lw five, p)) (e, rw p at (laid .table))
+            let p : planAnswer (q .«record_count») (q .geometry) ≡ refused (s .0) (s .1) = sym (laid .answered) ∙ e in
+            refused-checked (planAnswerOf x) i (s .0) (s .1) (rw (size-passed (q .geometry .«offset_size») ow four, size-passed (q .«length_size») lw five, p)) (e, rw p at (laid .table))
 
         -- The plan is accepted, so the lengths decide.
         module _ (p : BTreeV2Plan) (is : x ≡ plan-answer.Planned p) (t : Verdict)
-            (tested : verdictOf t ≡ lengthAnswer (p .«image_size») (q .n) (q .rs) (q .ow) (q .lw) (q .start) l) where
-          image-is : p .«image_size» ≡ nodesOf q * q .ns
+            (tested : verdictOf t ≡ lengthAnswer q (p .«image_size») l) where
+          image-is : p .«image_size» ≡ nodesOf q * q .geometry .«node_size»
           unfolding planFigures nodesOf
-          image-is = let f = known (q .n) (q .rs) (q .ns) (q .ow) p x i is laid .1 in cc
+          image-is = let f = known (q .«record_count») (q .geometry) p x i is laid .1 in cc
 
-          alike : Alike (planAnswer (q .n) (q .rs) (q .ns) (q .ow)) (verdictOf t) answer
+          alike : Alike (planAnswer (q .«record_count») (q .geometry)) (verdictOf t) answer
           unfolding writeAnswer lengthAnswer
           alike =
-              rw (size-passed (q .ow) ow four, size-passed (q .lw) lw five, planned-is (q .n) (q .rs) (q .ns) (q .ow) p x i is laid, tested, image-is)
-              (alike-tests _ (eqb (l .records) (q .n * q .rs)) (leb (q .n) (2 ^ (8 * q .lw) - 1)) (leb (q .start + nodesOf q * q .ns) (2 ^ (8 * q .ow) - 1)) (leb (22 + q .ow + q .lw) (l .header)) (leb (nodesOf q * q .ns) (l .image))
-              (l .records ∷ []) (q .n ∷ []) (q .start ∷ []) (l .header ∷ []) (l .image ∷ []))
+              rw (size-passed (q .geometry .«offset_size») ow four, size-passed (q .«length_size») lw five, planned-is (q .«record_count») (q .geometry) p x i is laid, tested, image-is)
+              (alike-tests _
+              (eqb (l .records) (q .«record_count» * q .geometry .«record_size»))
+              (leb (q .«record_count») (2 ^ (8 * q .«length_size») - 1))
+              (leb (q .start + nodesOf q * q .geometry .«node_size») (2 ^ (8 * q .geometry .«offset_size») - 1))
+              (leb (headerSize (q .geometry .«offset_size») (q .«length_size»)) (l .header))
+              (leb (nodesOf q * q .geometry .«node_size») (l .image))
+              _ _ _ _ _)
 
           pub checked-passed : t ≡ verdict.Accepted → Checked q l (planAnswerOf x) i
           checked-passed e =

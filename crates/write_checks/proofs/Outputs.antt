@@ -4,7 +4,8 @@ use mathlib.Core.List.{List}
 use Prim.Native.Nat.{ℕ, _-_}
 use Rattle.refusal.specs.Answer.{accepted, refused}
 use Rattle.numbers.specs.Places.{over}
-use Rattle.format.specs.Request.{Request, imageOf, headerOf}
+use Rattle.format.specs.declared.Request.{Request}
+use Rattle.format.specs.Request.{imageOf, headerOf}
 use Rattle.write_checks.specs.Writing.{written, headerExit, imageExit}
 
 module _ (q : Request) (recs headerEntry imageEntry figures : List ℕ) (ok : written q recs headerEntry imageEntry ≡ accepted figures) where

@@ -1,4 +1,4 @@
-// What a write is given, and every refusal of it, decided from numbers alone: no buffer is lent here.
+// Every refusal of a write, decided from numbers alone: no buffer is lent here.
 
 ghost use mathlib.Core.Path.{_≡_};
 ghost use mathlib.Core.Bool.{true};
@@ -6,23 +6,13 @@ ghost use Prim.Native.Nat.{_-_, _*_, _^_, _<_};
 ghost use Rattle.numbers.specs.Numbers.{fieldSize};
 ghost use Rattle.refusal.specs.Answer.{verdictOf};
 ghost use Rattle.plan.specs.Planned.{planAnswerOf};
-ghost use Rattle.write_checks.specs.Tests.{lengthAnswer, requestOf, Checked};
+ghost use Rattle.write_checks.specs.Tests.{lengthAnswer, Checked};
+use format::Request;
 use plan::BTreeV2Plan;
 use plan::PlanAndTable;
 use plan::PlanAnswer;
 use refusal::Refusal;
 use refusal::Verdict;
-
-// The numbers that the writing call is given.
-pub struct Request {
-    pub tree_type: u8,
-    pub record_count: u64,
-    pub record_size: u16,
-    pub node_size: u32,
-    pub offset_size: u8,
-    pub length_size: u8,
-    pub start: u64,
-}
 
 // The lengths of the lent buffers.
 pub struct Lengths {
@@ -46,18 +36,16 @@ fn largest(size: u8) -> u64
 }
 
 // Refusals 12 to 15, where a plan is accepted.
-fn test_lengths(
-    plan: BTreeV2Plan,
-    record_count: u64,
-    record_size: u16,
-    offset_size: u8,
-    length_size: u8,
-    start: u64,
-    lengths: Lengths,
-) -> Verdict
-    requires { ⌜ (fieldSize «offset_size» ≡ true) × (fieldSize «length_size» ≡ true) × («record_count» < 2 ^ 24) ⌝ }
-    ensures { λ r. ⌜ verdictOf r ≡ lengthAnswer (plan .«image_size») «record_count» «record_size» «offset_size» «length_size» start lengths ⌝ }
+fn test_lengths(request: Request, plan: BTreeV2Plan, lengths: Lengths) -> Verdict
+    requires { ⌜ (fieldSize (request .geometry .«offset_size») ≡ true) × (fieldSize (request .«length_size») ≡ true) × (request .«record_count» < 2 ^ 24) ⌝ }
+    ensures { λ r. ⌜ verdictOf r ≡ lengthAnswer request (plan .«image_size») lengths ⌝ }
 {
+    let record_count = request.record_count;
+    let geometry = request.geometry;
+    let record_size = geometry.record_size;
+    let offset_size = geometry.offset_size;
+    let length_size = request.length_size;
+    let start = request.start;
     if lengths.records != record_count * (record_size as u64) {
         return Verdict::Refused(Refusal::RecordBufferLength(lengths.records));
     }
@@ -71,7 +59,7 @@ fn test_lengths(
     if most - plan.image_size < start {
         return Verdict::Refused(Refusal::AddressAboveOffsetSize(start));
     }
-    if lengths.header < 22 + (offset_size as u64) + (length_size as u64) {
+    if lengths.header < format::HEADER_OVERHEAD + (offset_size as u64) + (length_size as u64) {
         return Verdict::Refused(Refusal::OutputTooShort(lengths.header));
     }
     if lengths.image < plan.image_size {
@@ -82,11 +70,10 @@ fn test_lengths(
 
 // Every refusal of the call, decided from its numbers and the lengths of the lent buffers; accepted, the plan and its table.
 pub fn check(request: Request, lengths: Lengths) -> PlanAndTable
-    ensures { λ r. ⌜ Checked (requestOf request) lengths (planAnswerOf (r .answer)) (r .info) ⌝ }
+    ensures { λ r. ⌜ Checked request lengths (planAnswerOf (r .answer)) (r .info) ⌝ }
 {
-    let record_count = request.record_count;
-    let record_size = request.record_size;
-    let offset_size = request.offset_size;
+    let geometry = request.geometry;
+    let offset_size = geometry.offset_size;
     let length_size = request.length_size;
     if !numbers::is_field_size(offset_size) {
         return PlanAndTable::refused(Refusal::InvalidOffsetSize(offset_size));
@@ -94,20 +81,12 @@ pub fn check(request: Request, lengths: Lengths) -> PlanAndTable
     if !numbers::is_field_size(length_size) {
         return PlanAndTable::refused(Refusal::InvalidLengthSize(length_size));
     }
-    let laid = plan::lay_out(record_count, record_size, request.node_size, offset_size);
+    let laid = plan::lay_out(request.record_count, geometry);
     let answer = laid.answer;
     let PlanAnswer::Planned(plan) = answer else {
         return laid;
     };
-    let tested = test_lengths(
-        plan,
-        record_count,
-        record_size,
-        offset_size,
-        length_size,
-        request.start,
-        lengths,
-    );
+    let tested = test_lengths(request, plan, lengths);
     match tested {
         Verdict::Accepted => laid,
         Verdict::Refused(cause) => PlanAndTable::refused(cause),
