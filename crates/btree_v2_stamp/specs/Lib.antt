@@ -1,3 +1,3 @@
 -- The definitions that the contracts of the crate cite.
-pub mod Layouts
+pub mod Header
 pub mod Stamped

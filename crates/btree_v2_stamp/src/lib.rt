@@ -7,23 +7,14 @@ ghost use Prim.Native.Nat.{_≤_};
 ghost use lib.ListN.{length, replicate};
 ghost use Rattle.numbers.specs.Places.{stored, put};
 ghost use Rattle.format.specs.Bytes.{headerBytes};
-ghost use Rattle.btree_v2_stamp.specs.Layouts.{formAt, fixedBytes};
+ghost use Rattle.btree_v2_stamp.specs.Header.{fixedBytes};
 ghost use Rattle.btree_v2_stamp.specs.Stamped.{stamped};
+use format::Request;
 
 // When a node is split and merged, in percent of its capacity; written into the header alone.
 const SPLIT_PERCENT: u64 = 100;
 
 const MERGE_PERCENT: u64 = 40;
-
-// What all nodes of a tree share: sizes in bytes, and the address of the first node.
-pub struct Layout {
-    pub tree_type: u8,
-    pub node_size: usize,
-    pub record_size: usize,
-    pub offset_size: usize,
-    pub count_size: usize,
-    pub start: u64,
-}
 
 // Zeros over a whole slice.
 fn clear(to: &mut [u8])
@@ -71,42 +62,40 @@ pub fn stamp(node: &mut [u8], used: usize, node_size: usize)
 }
 
 // Puts the header's first sixteen bytes, to the merge percent.
-fn put_fixed(header: &mut [u8], layout: Layout, depth: u64)
+fn put_fixed(header: &mut [u8], request: Request, depth: u64)
     requires { ⌜ 16 ≤ length (now header) ⌝ }
-    ensures { λ _. ⌜ now (header .exit) ≡ stored (now (header .entry)) 0 (fixedBytes layout depth) ⌝ }
+    ensures { λ _. ⌜ now (header .exit) ≡ stored (now (header .entry)) 0 (fixedBytes request depth) ⌝ }
 {
-    put_front(header, b'H', b'D', layout.tree_type);
-    numbers::write_le(header, 6, layout.node_size as u64, 4);
-    numbers::write_le(header, 10, layout.record_size as u64, 2);
+    let geometry = request.geometry;
+    put_front(header, b'H', b'D', request.tree_type);
+    numbers::write_le(header, 6, geometry.node_size as u64, 4);
+    numbers::write_le(header, 10, geometry.record_size as u64, 2);
     numbers::write_le(header, 12, depth, 2);
     numbers::write_le(header, 14, SPLIT_PERCENT, 1);
     numbers::write_le(header, 15, MERGE_PERCENT, 1);
 }
 
-// Puts the header's bytes where they fit; else changes nothing.
+// Puts the bytes of a request's header where they fit; else changes nothing.
 pub fn write_header(
     header: &mut [u8],
-    layout: Layout,
-    length_size: usize,
+    request: Request,
     depth: u64,
     address: u64,
     records: u64,
     total: u64,
 )
-    ensures { λ _. ⌜ now (header .exit) ≡ put (now (header .entry)) 0 (headerBytes (formAt layout) «length_size» depth address records total) ⌝ }
+    ensures { λ _. ⌜ now (header .exit) ≡ put (now (header .entry)) 0 (headerBytes request depth address records total) ⌝ }
 {
-    let offset_size = layout.offset_size;
-    let size = numbers::saturating_add(22, offset_size as u64);
-    let size = numbers::saturating_add(size, length_size as u64);
-    if (header.len() as u64) < size {
+    let geometry = request.geometry;
+    let offset_size = geometry.offset_size as usize;
+    let length_size = request.length_size as usize;
+    let size = format::HEADER_OVERHEAD as usize + offset_size + length_size;
+    if header.len() < size {
         return;
     }
-    let records_at = 16 + offset_size;
-    let total_at = records_at + 2;
-    let used = total_at + length_size;
-    put_fixed(header, layout, depth);
+    put_fixed(header, request, depth);
     numbers::write_le(header, 16, address, offset_size);
-    numbers::write_le(header, records_at, records, 2);
-    numbers::write_le(header, total_at, total, length_size);
-    stamp(header, used, used + 4);
+    numbers::write_le(header, 16 + offset_size, records, 2);
+    numbers::write_le(header, 18 + offset_size, total, length_size);
+    stamp(header, size - 4, size);
 }

@@ -9,7 +9,9 @@ put-fixed-spec =
     tie.close
     (tie.spec
     (λ c κs. search needs)
+    (λ c. search needs)
     (λ c κs. search needs)
+    (λ c. search needs)
     (λ c κs. search needs)
     (λ c κs. search needs)
     (λ c κs. search needs)
@@ -19,9 +21,9 @@ put-fixed-spec =
     let merge = c .before .before in
     let split = merge .before .before .before .before in
     let depth = split .before .before .before .before in
-    let nextRecord = depth .before .before .before .before in
-    let node = nextRecord .before .before .before .before in
-    let front = node .before .before .before .before in
-    fixed-put _ _ _ _ _ _ _ _ _ (front .before .before .before .pre)
-    (front .put-front .ensures) (node .write-le .ensures .0) (nextRecord .write-le2 .ensures .0)
+    let record-size = depth .before .before .before .before in
+    let node-size = record-size .before .before .before .before .before in
+    let front = node-size .before .before .before .before .before in
+    fixed-put _ _ _ _ _ _ _ _ _ (front .before .before .before .before .pre)
+    (front .put-front .ensures) (node-size .write-le .ensures .0) (record-size .write-le2 .ensures .0)
     (depth .write-le3 .ensures .0) (split .write-le4 .ensures .0) (merge .write-le5 .ensures .0)))

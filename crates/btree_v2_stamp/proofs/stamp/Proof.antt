@@ -27,6 +27,5 @@ stamp-spec =
     (λ c.
     let written = c .before .before .before .before .before .before in
     let tested = written .before .before .before .before in
-    let a = tested .before .before .before .before .args in
-    stamp-put (a .node .now) (a .used) (a .node-size) (omega (arith, tested .if3 .left, tested .before .if2 .left)) (tested .before .before .if1 .left)
-    _ _ _ (written .before .before .jenkins-lookup3 .ensures) (written .write-le .ensures .0) (c .before .before .clear .ensures)))
+    stamp-put _ _ _ (omega (arith, tested .if3 .left, tested .before .if2 .left)) (tested .before .before .if1 .left) _ _ _
+    (written .before .before .jenkins-lookup3 .ensures) (written .write-le .ensures .0) (c .before .before .clear .ensures)))

@@ -1,5 +1,5 @@
 -- No room, or the fixed part, three fields and the checksum, each after the one before.
-use Rattle.btree_v2_stamp.proofs.Headers.{header-short, header-room, header-put}
+use Rattle.btree_v2_stamp.proofs.Headers.{header-short, header-put}
 use borrow.Author.Needs.{needs}
 use native.Mathlib.Omega.{arith}
 use Rattle.btree_v2_stamp.proofs.write_header.Statement.{statement}
@@ -9,15 +9,16 @@ pub write-header-spec : {M : Type 1} → statement M
 write-header-spec =
     tie.close
     (tie.spec
-    (λ c κs. search needs)
-    (λ c κs. search needs)
-    (λ c. header-short (c .before .before .before .before .args .layout) _ _ _ _ _ _ _ _ (c .before .before .saturating-add .ensures) (c .before .saturating-add2 .ensures) (c .if1 .taken))
     (λ c. search needs)
     (λ c. search needs)
     (λ c. search needs)
+    (λ c. search needs)
+    (λ c. search header-short)
     (λ c κs. search needs)
     (λ c κs. search needs)
+    (λ c. search needs)
     (λ c κs. search needs)
+    (λ c. search needs)
     (λ c κs. search needs)
     (λ c. search needs)
     (λ c κs. search needs)
@@ -28,9 +29,5 @@ write-header-spec =
     let records = total .before .before .before .before in
     let address = records .before .before .before .before in
     let fixed = address .before .before .before .before in
-    let tested = fixed .before .before in
-    let sizes = tested .before .before in
-    header-put _ _ _ _ _ _ _ _ _ _ _ _
-    (header-room _ _ _ _ _ (sizes .saturating-add .ensures) (tested .before .saturating-add2 .ensures) (omega arith) (tested .if1 .left))
-    (fixed .put-fixed .ensures) (address .write-le .ensures .0)
-    (records .write-le2 .ensures .0) (total .write-le3 .ensures .0) (stamped .stamp .ensures)))
+    header-put _ _ _ _ _ _ _ _ _ _ _ (fixed .before .before .if1 .left) (fixed .put-fixed .ensures)
+    (address .write-le .ensures .0) (records .write-le2 .ensures .0) (total .write-le3 .ensures .0) (stamped .stamp .ensures)))
