@@ -18,11 +18,12 @@ use Rattle.numbers.specs.Numbers.{pick, le, part}
 use Rattle.numbers.specs.Places.{stored, put}
 use Rattle.numbers.proofs.Lists.{stored-nil, stored-append, length-stored, length-part, put-fits}
 use Rattle.numbers.proofs.Numbers.{le-length, lt-or-le}
-use Rattle.btree_v2_stamp.specs.declared.Layout.{Layout}
+use Rattle.format.specs.declared.Request.{Request}
+use Rattle.node_info.specs.Capacity.{childPointerSize}
 use Rattle.format.specs.Bytes.{padded}
 use Rattle.btree_v2_write.specs.declared.node.Child.{Child}
 use Rattle.btree_v2_write.specs.declared.node.InternalNode.{InternalNode}
-use Rattle.btree_v2_write.specs.Shares.{twoSizes, withOne, recordsAfter, pointerSize, pointerTo, pointersTo, nodesOfAll, InternalNodeFits, childShares, childrenOf, internalNodeBytes}
+use Rattle.btree_v2_write.specs.Shares.{twoSizes, withOne, recordsAfter, pointerSize, pointerTo, pointersTo, nodesOfAll, PointerFits, PointersFit, InternalNodeFits, childShares, childrenOf, internalNodeBytes}
 use Rattle.btree_v2_stamp.specs.Stamped.{stamped}
 use Rattle.btree_v2_stamp.proofs.Frames.{after-front, node-stamped}
 
@@ -94,7 +95,7 @@ module _ (o recs : List ℕ) (rs kept base extra r : ℕ) where
       unfolding withOne
       reached-next = let e = rw record-left at (inv .reached) in omega (arith, e)
 
-      -- The row is in the list, and its place in the node.
+      -- The record is in the list, and its place in the node.
       pub record-there : (nextRecord + m) * rs + rs ≤ length recs
       record-there =
           let e = reached-next in
@@ -154,92 +155,123 @@ module _ (start j n ns : ℕ) (pos : 0 < ns) (short : start + (j + n) * ns < 2 ^
   pub number-fits : Fits w64 x
   number-fits = omega (arith, le-mul-of-pos-right x pos, address-fits)
 
--- `put_pointer`: three fields, one after another.
-module _ (l : Layout) (o d e f : List ℕ) (at t j p q address : ℕ) (x : Child) where
-  pub pointer-put : at + pointerSize l t ≤ length o → address ≡ l .start + (j + (x .nodes - 1)) * l .«node_size»
-      → d ≡ stored o at (le (l .«offset_size») address) → p ≡ at + l .«offset_size» → e ≡ stored d p (le (l .«count_size») (x .records))
-      → q ≡ p + l .«count_size» → f ≡ stored e q (le t (x .total)) → f ≡ stored o at (pointerTo l t x j)
+-- `put_pointer`: the number of the child's root, its address, and three fields, one after another.
+module _ (q : Request) (L at w t j : ℕ) (x : Child) (fits : PointerFits q L at x w t j) where
+  pub pointer-number : Fits w64 (j + (x .nodes - 1))
+  pointer-number = number-fits (q .start) j (x .nodes) _ (fits .size) (fits .short) _ (omega (arith, fits .some))
+
+  pub pointer-address : q .start + (j + (x .nodes - 1)) * q .geometry .«node_size» < 2 ^ 64
+  pointer-address = address-fits (q .start) j (x .nodes) _ (fits .size) (fits .short) _ (omega (arith, fits .some))
+
+module _ (q : Request) (o d e f : List ℕ) (at w t j p p′ address : ℕ) (x : Child) where
+  pub pointer-put : at + childPointerSize (q .geometry) w t ≤ length o → address ≡ q .start + (j + (x .nodes - 1)) * q .geometry .«node_size»
+      → d ≡ stored o at (le (q .geometry .«offset_size») address) → p ≡ at + q .geometry .«offset_size» → e ≡ stored d p (le w (x .records))
+      → p′ ≡ p + w → f ≡ stored e p′ (le t (x .total)) → f ≡ stored o at (pointerTo q w t x j)
   unfolding pointerTo
   pointer-put h is hd hp he hq hf =
-      let a = le (l .«offset_size») address in
-      let b = le (l .«count_size») (x .records) in
+      let a = le (q .geometry .«offset_size») address in
+      let b = le w (x .records) in
       let both : e ≡ stored o at (a ++ b) = rw (he, hd) (stored-turn o at p a b (omega arith) (rw le-length hp)) in
       rw (hf, both, ← is, ← append-assoc)
-      (stored-turn o at q (a ++ b) (le t (x .total)) (omega arith) (rw (length-append, le-length, le-length) (omega (arith, hp, hq))))
+      (stored-turn o at p′ (a ++ b) (le t (x .total)) (omega arith) (rw (length-append, le-length, le-length) (omega (arith, hp, hq))))
 
-pointer-length : (l : Layout) (t : ℕ) (x : Child) (j : ℕ) → length (pointerTo l t x j) ≡ pointerSize l t
+pointer-length : (q : Request) (w t : ℕ) (x : Child) (j : ℕ) → length (pointerTo q w t x j) ≡ childPointerSize (q .geometry) w t
 unfolding pointerTo
-pointer-length l t x j = simp (length-append, le-length, add-assoc)
+pointer-length q w t x j = simp (length-append, le-length, add-assoc)
 
 pick-some : (b : Bool) (x y : Child) → 0 < x .nodes → 0 < y .nodes → 0 < pick b x y .nodes
 pick-some true x y h k = h
 pick-some false x y h k = k
 
--- `put_pointers`
-module _ (o : List ℕ) (l : Layout) (at₀ kept extra t j : ℕ) (large small : Child) where
+-- `put_pointers`, before child i: the place, the node reached, and what is left. The children are `kept` + 1, the first `extra` of them large.
+pub record PointersLeft (o : List ℕ) (q : Request) (at₀ kept extra : ℕ) (large small : Child) (w t j : ℕ) (d : List ℕ) (at next i : ℕ) : Type 0 where
+  pub within : i ≤ kept + 1
+  pub place : at ≡ at₀ + i * childPointerSize (q .geometry) w t
+  pub reached : next + nodesOfAll (from (kept + 1) extra large small i) ≡ j + nodesOfAll (twoSizes (kept + 1) extra large small)
+  pub long : length d ≡ length o
+  pub left : stored d at (pointersTo q w t (from (kept + 1) extra large small i) next)
+      ≡ stored o at₀ (pointersTo q w t (twoSizes (kept + 1) extra large small) j)
+
+module _ (o : List ℕ) (q : Request) (at₀ : ℕ) (x₀ : InternalNode) where
+  abbrev kept : ℕ
+  kept = x₀ .kept
+
+  abbrev w : ℕ
+  w = x₀ .«count_size»
+
+  abbrev t : ℕ
+  t = x₀ .«total_size»
+
+  abbrev width : ℕ
+  width = pointerSize q x₀
+
   abbrev pointersFrom : ℕ → List Child
-  pointersFrom i = from (kept + 1) extra large small i
+  pointersFrom i = from (kept + 1) (x₀ .extra) (x₀ .large) (x₀ .small) i
 
-  -- Before child i: the place, the node reached, and what is left.
-  pub record PointersLeft (d : List ℕ) (at next i : ℕ) : Type 0 where
-    pub within : i ≤ kept + 1
-    pub place : at ≡ at₀ + i * pointerSize l t
-    pub reached : next + nodesOfAll (pointersFrom i) ≡ j + nodesOfAll (twoSizes (kept + 1) extra large small)
-    pub long : length d ≡ length o
-    pub left : stored d at (pointersTo l t (pointersFrom i) next) ≡ stored o at₀ (pointersTo l t (twoSizes (kept + 1) extra large small) j)
+  abbrev Left : List ℕ → ℕ → ℕ → ℕ → Type 0
+  Left d at next i = PointersLeft o q at₀ kept (x₀ .extra) (x₀ .large) (x₀ .small) w t (x₀ .«first_node») d at next i
 
-  pub pointers-start : PointersLeft o at₀ j 0
+  pub pointers-start : Left o at₀ (x₀ .«first_node») 0
   pointers-start =
       record { within = zero≤; place = rw (zero-mul, add-zero); reached = rw from-0; long = refl; left = rw from-0 }
 
-  module _ (d : List ℕ) (at next i : ℕ) (x : Child) (inv : PointersLeft d at next i) (h : i ≤ kept) (one : x ≡ pick (ltb i extra) large small) where
+  module _ (d : List ℕ) (at next i : ℕ) (x : Child) (inv : Left d at next i) (h : i ≤ kept) (one : x ≡ pick (ltb i (x₀ .extra)) (x₀ .large) (x₀ .small)) where
     pointer-left : pointersFrom i ≡ x ∷ pointersFrom (i + 1)
-    pointer-left = rw one (from-step (kept + 1) extra large small i (omega arith))
+    pointer-left = rw one (from-step (kept + 1) (x₀ .extra) (x₀ .large) (x₀ .small) i (omega arith))
 
-    next-reached : next + x .nodes + nodesOfAll (pointersFrom (i + 1)) ≡ j + nodesOfAll (twoSizes (kept + 1) extra large small)
+    next-reached : next + x .nodes + nodesOfAll (pointersFrom (i + 1)) ≡ x₀ .«first_node» + nodesOfAll (childrenOf x₀)
     unfolding nodesOfAll
     next-reached = let e = rw pointer-left at (inv .reached) in omega (arith, e)
 
     -- What `put_pointer` asks.
-    pub pointer-room : at₀ + (kept + 1) * pointerSize l t ≤ length o → at + pointerSize l t ≤ length d
-    pointer-room room =
-        let s : suc i ≤ kept + 1 = omega arith in
-        let m = rw suc-mul at (mul-le-mul-right (pointerSize l t) s) in omega (arith, m, inv .place, inv .long)
+    module _ (fits : PointersFit q (length o) at₀ x₀) where
+      pointer-room : at + width ≤ length d
+      pointer-room =
+          let s : suc i ≤ kept + 1 = omega arith in
+          let m = rw suc-mul at (mul-le-mul-right width s) in omega (arith, m, inv .place, inv .long, fits .bytes)
 
-    pub pointer-some : 0 < large .nodes → 0 < small .nodes → 0 < x .nodes
-    pointer-some a b = rw one (pick-some (ltb i extra) large small a b)
+      pointer-short : q .start + (next + x .nodes) * q .geometry .«node_size» < 2 ^ 64
+      pointer-short =
+          let e = next-reached in
+          let s : next + x .nodes ≤ x₀ .«first_node» + nodesOfAll (childrenOf x₀) = omega arith in
+          omega (arith, mul-le-mul-right (q .geometry .«node_size») s, fits .short)
 
-    pub pointer-short : l .start + (j + nodesOfAll (twoSizes (kept + 1) extra large small)) * l .«node_size» < 2 ^ 64
-        → l .start + (next + x .nodes) * l .«node_size» < 2 ^ 64
-    pointer-short short =
-        let e = next-reached in
-        let s : next + x .nodes ≤ j + nodesOfAll (twoSizes (kept + 1) extra large small) = omega arith in
-        let m = mul-le-mul-right (l .«node_size») s in omega (arith, m)
+      pub pointer-fits : PointerFits q (length d) at x w t next
+      pointer-fits =
+          record {
+            bytes = pointer-room;
+            some = rw one (pick-some (ltb i (x₀ .extra)) (x₀ .large) (x₀ .small) (fits .large) (fits .small));
+            size = fits .size;
+            short = pointer-short;
+          }
 
-    pub next-fits : 0 < l .«node_size» → l .start + (j + nodesOfAll (twoSizes (kept + 1) extra large small)) * l .«node_size» < 2 ^ 64
-        → Fits w64 (next + x .nodes)
-    next-fits pos short = let m = le-mul-of-pos-right (next + x .nodes) pos in omega (arith, m, pointer-short short)
+      pub next-fits : Fits w64 (next + x .nodes)
+      next-fits = omega (arith, le-mul-of-pos-right (next + x .nodes) (fits .size), pointer-short)
 
-    pub pointers-turn : (d′ : List ℕ) (at′ : ℕ) → at₀ + (kept + 1) * pointerSize l t ≤ length o → d′ ≡ stored d at (pointerTo l t x next)
-        → at′ ≡ at + pointerSize l t → PointersLeft d′ at′ (next + x .nodes) (i + 1)
-    unfolding pointersTo
-    pointers-turn d′ at′ room e p =
-        record {
-          within = omega arith;
-          place = rw (add-one, suc-mul) (omega (arith, p, inv .place));
-          reached = next-reached;
-          long = ap length e ∙ length-stored d at (pointerTo l t x next) (rw (pointer-length l t x next) (pointer-room room)) ∙ inv .long;
-          left =
-              rw (e, stored-turn d at at′ (pointerTo l t x next) (pointersTo l t (pointersFrom (i + 1)) (next + x .nodes)) (omega (arith, pointer-room room)) (rw (pointer-length l t x next) p))
-              (rw pointer-left at (inv .left));
-        }
+      pub turn-fits : Fits w64 (i + 1)
+      turn-fits = omega (arith, fits .few)
 
-  pub pointers-end : (d : List ℕ) (at next i : ℕ) → PointersLeft d at next i → kept < i
-      → (d ≡ stored o at₀ (pointersTo l t (twoSizes (kept + 1) extra large small) j)) × (at ≡ at₀ + (kept + 1) * pointerSize l t)
+      pub pointers-turn : (d′ : List ℕ) (at′ : ℕ) → d′ ≡ stored d at (pointerTo q w t x next) → at′ ≡ at + width
+          → Left d′ at′ (next + x .nodes) (i + 1)
+      unfolding pointersTo
+      pointers-turn d′ at′ e p =
+          let rest = pointersTo q w t (pointersFrom (i + 1)) (next + x .nodes) in
+          record {
+            within = omega arith;
+            place = rw (add-one, suc-mul) (omega (arith, p, inv .place));
+            reached = next-reached;
+            long = ap length e ∙ length-stored d at (pointerTo q w t x next) (rw (pointer-length q w t x next) pointer-room) ∙ inv .long;
+            left =
+                rw (e, stored-turn d at at′ (pointerTo q w t x next) rest (omega (arith, pointer-room)) (rw (pointer-length q w t x next) p))
+                (rw pointer-left at (inv .left));
+          }
+
+  pub pointers-end : (d : List ℕ) (at next i : ℕ) → Left d at next i → kept < i
+      → (d ≡ stored o at₀ (pointersTo q w t (childrenOf x₀) (x₀ .«first_node»))) × (at ≡ at₀ + (kept + 1) * width)
   unfolding pointersTo
   pointers-end d at next i inv h =
       let e : i ≡ kept + 1 = omega (arith, inv .within) in
-      (sym (stored-nil d at) ∙ (rw (from-end (kept + 1) extra large small i (omega arith)) at (inv .left)), rw (← e) (inv .place))
+      (sym (stored-nil d at) ∙ (rw (from-end (kept + 1) (x₀ .extra) (x₀ .large) (x₀ .small) i (omega arith)) at (inv .left)), rw (← e) (inv .place))
 
 -- How long the parts are.
 length-two : {A : Type 0} (k e : ℕ) (x y : A) → length (twoSizes k e x y) ≡ k
@@ -257,31 +289,31 @@ length-range rs recs (m ∷ ms) r h =
     let here : (r + m) * rs + rs ≤ length recs = le-trans (rw suc-mul at (mul-le-mul-right rs less)) next in
     rw (length-append, length-part recs ((r + m) * rs) rs here, length-range rs recs ms (r + m + 1) next, suc-mul) (omega arith)
 
-length-pointers : (l : Layout) (t : ℕ) (xs : List Child) (j : ℕ) → length (pointersTo l t xs j) ≡ length xs * pointerSize l t
+length-pointers : (q : Request) (w t : ℕ) (xs : List Child) (j : ℕ) → length (pointersTo q w t xs j) ≡ length xs * childPointerSize (q .geometry) w t
 unfolding pointersTo
-length-pointers l t [] j = sym (zero-mul (pointerSize l t))
-length-pointers l t (x ∷ xs) j =
-    rw (length-append, pointer-length, length-pointers l t xs (j + x .nodes), suc-mul) (omega arith)
+length-pointers q w t [] j = sym (zero-mul (childPointerSize (q .geometry) w t))
+length-pointers q w t (x ∷ xs) j =
+    rw (length-append, pointer-length, length-pointers q w t xs (j + x .nodes), suc-mul) (omega arith)
 
 -- `fill_internal`: front, own records, pointers, checksum, zeros.
-pub internal-filled : (l : Layout) (o d e f z recs : List ℕ) (x : InternalNode) (at end : ℕ) → InternalNodeFits l (length recs) x → l .«node_size» ≤ length o
-    → d ≡ put o 0 (66 ∷ 84 ∷ 73 ∷ 78 ∷ 0 ∷ l .«tree_type» ∷ [])
-    → e ≡ stored d 6 (recordsAfter (l .«record_size») recs (childShares x) (x .«first_record»)) → at ≡ 6 + x .kept * l .«record_size»
-    → f ≡ stored e at (pointersTo l (x .«total_size») (childrenOf x) (x .«first_node»))
-    → end ≡ at + (x .kept + 1) * pointerSize l (x .«total_size»)
-    → z ≡ stamped f end (l .«node_size») → z ≡ stored o 0 (padded (l .«node_size») (internalNodeBytes l recs x))
+pub internal-filled : (q : Request) (o d e f z recs : List ℕ) (x : InternalNode) (at end : ℕ) → InternalNodeFits q (length recs) x → q .geometry .«node_size» ≤ length o
+    → d ≡ put o 0 (66 ∷ 84 ∷ 73 ∷ 78 ∷ 0 ∷ q .«tree_type» ∷ [])
+    → e ≡ stored d 6 (recordsAfter (q .geometry .«record_size») recs (childShares x) (x .«first_record»)) → at ≡ 6 + x .kept * q .geometry .«record_size»
+    → f ≡ stored e at (pointersTo q (x .«count_size») (x .«total_size») (childrenOf x) (x .«first_node»))
+    → end ≡ at + (x .kept + 1) * pointerSize q x
+    → z ≡ stamped f end (q .geometry .«node_size») → z ≡ stored o 0 (padded (q .geometry .«node_size») (internalNodeBytes q recs x))
 unfolding internalNodeBytes
-internal-filled l o d e f z recs x at end fits h hd he hat hf hend hz =
-    let front : List ℕ = 66 ∷ 84 ∷ 73 ∷ 78 ∷ 0 ∷ l .«tree_type» ∷ [] in
-    let records = recordsAfter (l .«record_size») recs (childShares x) (x .«first_record») in
-    let ptrs = pointersTo l (x .«total_size») (childrenOf x) (x .«first_node») in
-    let long : length records ≡ x .kept * l .«record_size» =
-    rw (length-range (l .«record_size») recs (childShares x) (x .«first_record») (fits .inList), length-two) in
-    let many : length ptrs ≡ (x .kept + 1) * pointerSize l (x .«total_size») =
-    rw (length-pointers l (x .«total_size») (childrenOf x) (x .«first_node»), length-two) in
+internal-filled q o d e f z recs x at end fits h hd he hat hf hend hz =
+    let front : List ℕ = 66 ∷ 84 ∷ 73 ∷ 78 ∷ 0 ∷ q .«tree_type» ∷ [] in
+    let records = recordsAfter (q .geometry .«record_size») recs (childShares x) (x .«first_record») in
+    let ptrs = pointersTo q (x .«count_size») (x .«total_size») (childrenOf x) (x .«first_node») in
+    let long : length records ≡ x .kept * q .geometry .«record_size» =
+    rw (length-range (q .geometry .«record_size») recs (childShares x) (x .«first_record») (fits .inList), length-two) in
+    let many : length ptrs ≡ (x .kept + 1) * pointerSize q x =
+    rw (length-pointers q (x .«count_size») (x .«total_size») (childrenOf x) (x .«first_node»), length-two) in
     let first = after-front o d e front records 6 refl (hd ∙ put-fits o 0 front (omega (arith, fits .bytes))) he in
     let both = after-front o e f (front ++ records) ptrs at (rw (length-append front records, long) hat) first hf in
-    node-stamped o f z (front ++ (records ++ ptrs)) end (l .«node_size»)
+    node-stamped o f z (front ++ (records ++ ptrs)) end (q .geometry .«node_size»)
     (rw append-assoc at both)
     (rw (length-append front (records ++ ptrs), length-append, long, many) (omega (arith, hat, hend)))
     (omega (arith, hat, hend, fits .bytes)) h hz

@@ -14,8 +14,7 @@ use Rattle.numbers.specs.Places.{stored, put}
 use Rattle.numbers.proofs.Lists.{stored-drop, length-part, put-fits}
 use Rattle.numbers.proofs.Numbers.{le-length}
 use Rattle.format.specs.Bytes.{padded, recordRange, leafBytes}
-use Rattle.btree_v2_stamp.specs.declared.Layout.{Layout}
-use Rattle.btree_v2_stamp.specs.Layouts.{formAt}
+use Rattle.format.specs.declared.Request.{Request}
 use Rattle.btree_v2_stamp.specs.Stamped.{stamped}
 use Rattle.btree_v2_stamp.proofs.Frames.{after-front, node-stamped}
 
@@ -28,17 +27,17 @@ module _ (o : List ℕ) (at w : ℕ) (h : at + w ≤ length o) where
   number-end r e = rw (e, le-leb (at + w) (length o) h)
 
 -- `fill_leaf`: front, records, checksum, zeros.
-pub leaf-filled : (l : Layout) (o d e z records : List ℕ) (n r : ℕ) → l .«node_size» ≤ length o → 10 + n * l .«record_size» ≤ l .«node_size»
-    → (r + n) * l .«record_size» ≤ length records → d ≡ put o 0 (66 ∷ 84 ∷ 76 ∷ 70 ∷ 0 ∷ l .«tree_type» ∷ [])
-    → e ≡ stored d 6 (part records (r * l .«record_size») (n * l .«record_size»)) → z ≡ stamped e (6 + n * l .«record_size») (l .«node_size»)
-    → z ≡ stored o 0 (padded (l .«node_size») (leafBytes (formAt l) (l .start) records n r))
+pub leaf-filled : (q : Request) (o d e z records : List ℕ) (n r : ℕ) → q .geometry .«node_size» ≤ length o → 10 + n * q .geometry .«record_size» ≤ q .geometry .«node_size»
+    → (r + n) * q .geometry .«record_size» ≤ length records → d ≡ put o 0 (66 ∷ 84 ∷ 76 ∷ 70 ∷ 0 ∷ q .«tree_type» ∷ [])
+    → e ≡ stored d 6 (part records (r * q .geometry .«record_size») (n * q .geometry .«record_size»)) → z ≡ stamped e (6 + n * q .geometry .«record_size») (q .geometry .«node_size»)
+    → z ≡ stored o 0 (padded (q .geometry .«node_size») (leafBytes q records n r))
 unfolding leafBytes recordRange
-leaf-filled l o d e z records n r h k m hd he hz =
-    let t = part records (r * l .«record_size») (n * l .«record_size») in
-    let f : List ℕ = 66 ∷ 84 ∷ 76 ∷ 70 ∷ 0 ∷ l .«tree_type» ∷ [] in
-    let many : length t ≡ n * l .«record_size» = length-part records (r * l .«record_size») (n * l .«record_size») (rw add-mul at m) in
+leaf-filled q o d e z records n r h k m hd he hz =
+    let t = part records (r * q .geometry .«record_size») (n * q .geometry .«record_size») in
+    let f : List ℕ = 66 ∷ 84 ∷ 76 ∷ 70 ∷ 0 ∷ q .«tree_type» ∷ [] in
+    let many : length t ≡ n * q .geometry .«record_size» = length-part records (r * q .geometry .«record_size») (n * q .geometry .«record_size») (rw add-mul at m) in
     let both = after-front o d e f t 6 refl (hd ∙ put-fits o 0 f (omega arith)) he in
-    node-stamped o e z (f ++ t) (6 + n * l .«record_size») (l .«node_size») both (rw (length-append f t, many)) (omega arith) h hz
+    node-stamped o e z (f ++ t) (6 + n * q .geometry .«record_size») (q .geometry .«node_size») both (rw (length-append f t, many)) (omega arith) h hz
 
 -- A node filled from the front of what follows its place.
 pub node-placed : (o d b : List ℕ) (a : ℕ) → a ≤ length o → d ≡ stored (part o a (length o - a)) 0 b → putMid a (length o - a) o d ≡ stored o a b

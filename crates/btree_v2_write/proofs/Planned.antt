@@ -12,6 +12,7 @@ use lib.ListN.{length, replicate}
 use borrow.Author.Tests.{lt-ltb, le-ltb}
 use Rattle.numbers.specs.Numbers.{pick}
 use Rattle.numbers.proofs.Numbers.{lt-or-le}
+use Rattle.node_info.specs.Capacity.{countWidth, totalWidth}
 use Rattle.plan.specs.Tree.{count, size, below, nodes}
 use Rattle.plan.specs.Planned.{taken, children, kidsOf, planTree, thin}
 use Rattle.plan.proofs.Distributing.{share, extra, extra-lt, children-is, length-children, children-some, sumOf-children, sum-children, taken-le, all-children-less, all-children-more}
@@ -19,10 +20,9 @@ use Rattle.plan.proofs.Lists.{sumOf, AllOf, all-of-map}
 use Rattle.plan.proofs.Plans.{plan-size, plan-nodes}
 use Rattle.plan.proofs.Thin.{thin-children, thin-pos}
 use Rattle.format.specs.Bytes.{recordRange, address, pointerBytes, pointer, pointers, ownRecords, internalBytes, padded, kidsImage, image}
-use Rattle.btree_v2_stamp.specs.declared.Layout.{Layout}
+use Rattle.format.specs.declared.Request.{Request}
 use Rattle.btree_v2_write.specs.declared.node.Child.{Child}
 use Rattle.btree_v2_write.specs.declared.node.InternalNode.{InternalNode}
-use Rattle.btree_v2_stamp.specs.Layouts.{formAt}
 use Rattle.btree_v2_write.specs.Shares.{twoSizes, withOne, recordsAfter, pointerTo, pointersTo, nodesOfAll, internalNodeBytes, childShares, childrenOf}
 use Rattle.btree_v2_write.specs.Subtrees.{capacities, subtree, subtreeNodes, subtreeImage}
 
@@ -90,10 +90,10 @@ front-less [] h = absurd (not-suc-le-zero h)
 front-less (m ∷ []) h = omega arith
 front-less (m ∷ k ∷ ms) h = omega (arith, front-less (k ∷ ms) (omega arith))
 
-module _ (l : Layout) (d : ℕ) where
+module _ (q : Request) (d : ℕ) where
   -- A subtree as a child.
   abbrev childAt : ℕ → Child
-  childAt m = record { records = count d (subtree l d m); total = size d (subtree l d m); nodes = subtreeNodes l d m }
+  childAt m = record { records = count d (subtree q d m); total = size d (subtree q d m); nodes = subtreeNodes q d m }
 
   unfoldable childrenAt : List ℕ → List Child
   childrenAt [] = []
@@ -105,99 +105,100 @@ module _ (l : Layout) (d : ℕ) where
   children-two (suc k) zero x y = ap (λ z. childAt y ∷ z) (children-two k zero x y)
   children-two (suc k) (suc e) x y = ap (λ z. childAt x ∷ z) (children-two k e x y)
 
-  nodes-all : (ms : List ℕ) → nodesOfAll (childrenAt ms) ≡ sumOf (subtreeNodes l d) ms
+  nodes-all : (ms : List ℕ) → nodesOfAll (childrenAt ms) ≡ sumOf (subtreeNodes q d) ms
   unfolding nodesOfAll childrenAt sumOf
   nodes-all [] = refl
   nodes-all (m ∷ ms) = rw (nodes-all ms)
 
-  root-place : (j m : ℕ) → j + (subtreeNodes l d m - 1) ≡ j + below d (subtree l d m)
+  root-place : (j m : ℕ) → j + (subtreeNodes q d m - 1) ≡ j + below d (subtree q d m)
   unfolding nodes
   root-place j m = omega arith
 
-module _ (l : Layout) (recs : List ℕ) (d : ℕ) where
+module _ (q : Request) (recs : List ℕ) (d : ℕ) where
   -- The images of subtrees of these numbers of records, one after another.
   unfoldable pub images : List ℕ → ℕ → ℕ → List ℕ
   images [] j r = []
-  images (m ∷ ms) j r = subtreeImage l recs d m j r ++ images ms (j + subtreeNodes l d m) (r + m + 1)
+  images (m ∷ ms) j r = subtreeImage q recs d m j r ++ images ms (j + subtreeNodes q d m) (r + m + 1)
 
   -- Each has as many records as it says.
   abbrev Sized : List ℕ → Type 0
-  Sized = AllOf (λ m. size d (subtree l d m) ≡ m)
+  Sized = AllOf (λ m. size d (subtree q d m) ≡ m)
 
   pub images-kids : (ms : List ℕ) → 0 < length ms → Sized ms → (j r : ℕ)
-      → kidsImage (formAt l) (l .start) recs d (image (formAt l) (l .start) recs d) (kidsOf (subtree l d) ms) j r ≡ images ms j r
+      → kidsImage q recs d (image q recs d) (kidsOf (subtree q d) ms) j r ≡ images ms j r
   unfolding kidsOf kidsImage images subtreeImage
   images-kids [] h s j r = absurd (not-suc-le-zero h)
   images-kids (m ∷ []) h s j r = sym (append-nil _)
   images-kids (m ∷ k ∷ ms) h s j r =
-      rw (s .0, images-kids (k ∷ ms) (omega arith) (s .1) (j + nodes d (subtree l d m)) (r + m + 1))
+      rw (s .0, images-kids (k ∷ ms) (omega arith) (s .1) (j + nodes d (subtree q d m)) (r + m + 1))
 
   records-kids : (ms : List ℕ) → 0 < length ms → Sized ms → (r : ℕ)
-      → ownRecords (formAt l) (l .start) recs d (kidsOf (subtree l d) ms) r ≡ recordsAfter (l .«record_size») recs (front ms) r
+      → ownRecords q recs d (kidsOf (subtree q d) ms) r ≡ recordsAfter (q .geometry .«record_size») recs (front ms) r
   unfolding kidsOf ownRecords recordRange recordsAfter front
   records-kids [] h s r = absurd (not-suc-le-zero h)
   records-kids (m ∷ []) h s r = refl
   records-kids (m ∷ k ∷ ms) h s r = rw (s .0, one-mul, records-kids (k ∷ ms) (omega arith) (s .1) (r + m + 1))
 
-  module _ (t : ℕ) (e : t ≡ formAt l .tw d) where
-    pointer-at : (m j : ℕ) → pointer (formAt l) (l .start) recs d (subtree l d m) j ≡ pointerTo l t (childAt l d m) j
+  module _ (w t : ℕ) (e₁ : w ≡ countWidth (q .geometry)) (e : t ≡ totalWidth (q .geometry) d) where
+    pointer-at : (m j : ℕ) → pointer q recs d (subtree q d m) j ≡ pointerTo q w t (childAt q d m) j
     unfolding pointer pointerBytes address pointerTo
-    pointer-at m j = rw (e, root-place l d j m)
+    pointer-at m j = rw (e₁, e, root-place q d j m)
 
     pointers-kids : (ms : List ℕ) → 0 < length ms → (j : ℕ)
-        → pointers (formAt l) (l .start) recs d (kidsOf (subtree l d) ms) j ≡ pointersTo l t (childrenAt l d ms) j
+        → pointers q recs d (kidsOf (subtree q d) ms) j ≡ pointersTo q w t (childrenAt q d ms) j
     unfolding kidsOf pointers pointersTo childrenAt
     pointers-kids [] h j = absurd (not-suc-le-zero h)
     pointers-kids (m ∷ []) h j = pointer-at m j ∙ sym (append-nil _)
-    pointers-kids (m ∷ k ∷ ms) h j = rw (pointer-at m j, pointers-kids (k ∷ ms) (omega arith) (j + nodes d (subtree l d m)))
+    pointers-kids (m ∷ k ∷ ms) h j = rw (pointer-at m j, pointers-kids (k ∷ ms) (omega arith) (j + nodes d (subtree q d m)))
 
 -- The planned node of level d + 1 for n records.
-module _ (l : Layout) (recs : List ℕ) (d n : ℕ) (thick : thin (capacities l) (suc d) n ≡ false) where
+module _ (q : Request) (recs : List ℕ) (d n : ℕ) (thick : thin (capacities q) (suc d) n ≡ false) where
   abbrev pub cap : ℕ
-  cap = capacities l d
+  cap = capacities q d
 
-  pub sized : AllOf (λ m. size d (subtree l d m) ≡ m) (children cap n)
-  sized = all-of-map _ _ (plan-size (capacities l) d) (children cap n) (thin-children (capacities l) d n thick)
+  pub sized : AllOf (λ m. size d (subtree q d m) ≡ m) (children cap n)
+  sized = all-of-map _ _ (plan-size (capacities q) d) (children cap n) (thin-children (capacities q) d n thick)
 
-  pub nodes-node : subtreeNodes l (suc d) n ≡ sumOf (subtreeNodes l d) (children cap n) + 1
-  nodes-node = plan-nodes (capacities l) d n ∙ rw (sumOf-children (λ m. nodes d (subtree l d m)) cap n)
+  pub nodes-node : subtreeNodes q (suc d) n ≡ sumOf (subtreeNodes q d) (children cap n) + 1
+  nodes-node = plan-nodes (capacities q) d n ∙ rw (sumOf-children (λ m. nodes d (subtree q d m)) cap n)
 
   -- The numbers of the node as the code has them.
   pub record Numbers (x : InternalNode) : Type 0 where
     pub kept : x .kept ≡ taken cap n
     pub base : x .base ≡ share cap n
     pub extra : x .extra ≡ extra cap n
-    pub large : 0 < x .extra → x .large ≡ childAt l d (share cap n + 1)
-    pub small : x .small ≡ childAt l d (share cap n)
-    pub total : x .«total_size» ≡ formAt l .tw d
+    pub large : 0 < x .extra → x .large ≡ childAt q d (share cap n + 1)
+    pub small : x .small ≡ childAt q d (share cap n)
+    pub counts : x .«count_size» ≡ countWidth (q .geometry)
+    pub total : x .«total_size» ≡ totalWidth (q .geometry) d
 
   module _ (x : InternalNode) (is : Numbers x) where
     shares-are : childShares x ≡ front (children cap n)
     shares-are =
         rw (is .kept, is .extra, is .base, ← two-children, add-one, front-two)
 
-    children-are : childrenOf x ≡ childrenAt l d (children cap n)
+    children-are : childrenOf x ≡ childrenAt q d (children cap n)
     children-are =
-        two-any (x .kept + 1) (x .extra) (x .large) (childAt l d (share cap n + 1)) (x .small) (is .large)
-        ∙ rw (is .small, is .kept, is .extra, ← children-two l d, two-children)
+        two-any (x .kept + 1) (x .extra) (x .large) (childAt q d (share cap n + 1)) (x .small) (is .large)
+        ∙ rw (is .small, is .kept, is .extra, ← children-two q d, two-children)
 
-    internal-is : internalNodeBytes l recs x ≡ internalBytes (formAt l) (l .start) recs d (kidsOf (subtree l d) (children cap n)) (x .«first_node») (x .«first_record»)
+    internal-is : internalNodeBytes q recs x ≡ internalBytes q recs d (kidsOf (subtree q d) (children cap n)) (x .«first_node») (x .«first_record»)
     unfolding internalNodeBytes internalBytes
     internal-is =
-        let own = records-kids l recs d (children cap n) (children-some cap n) sized (x .«first_record») in
-        let below = pointers-kids l recs d (x .«total_size») (is .total) (children cap n) (children-some cap n) (x .«first_node») in
+        let own = records-kids q recs d (children cap n) (children-some cap n) sized (x .«first_record») in
+        let below = pointers-kids q recs d (x .«count_size») (x .«total_size») (is .counts) (is .total) (children cap n) (children-some cap n) (x .«first_node») in
         rw (shares-are, children-are, own, below)
 
     -- The subtree's image: its children's, and its root's.
-    pub image-is : subtreeImage l recs (suc d) n (x .«first_node») (x .«first_record»)
-        ≡ images l recs d (children cap n) (x .«first_node») (x .«first_record») ++ padded (l .«node_size») (internalNodeBytes l recs x)
+    pub image-is : subtreeImage q recs (suc d) n (x .«first_node») (x .«first_record»)
+        ≡ images q recs d (children cap n) (x .«first_node») (x .«first_record») ++ padded (q .geometry .«node_size») (internalNodeBytes q recs x)
     unfolding subtreeImage image planTree
     image-is =
-        rw (internal-is, images-kids l recs d (children cap n) (children-some cap n) sized (x .«first_node») (x .«first_record»))
+        rw (internal-is, images-kids q recs d (children cap n) (children-some cap n) sized (x .«first_node») (x .«first_record»))
 
-    pub nodes-are : nodesOfAll (childrenOf x) ≡ sumOf (subtreeNodes l d) (children cap n)
-    nodes-are = rw (children-are, nodes-all l d (children cap n))
+    pub nodes-are : nodesOfAll (childrenOf x) ≡ sumOf (subtreeNodes q d) (children cap n)
+    nodes-are = rw (children-are, nodes-all q d (children cap n))
 
     pub records-within : withOne (childShares x) ≤ n
     records-within =
-        rw shares-are (omega (arith, front-less (children cap n) (children-some cap n), one-each cap n (thin-pos (capacities l) (suc d) n thick)))
+        rw shares-are (omega (arith, front-less (children cap n) (children-some cap n), one-each cap n (thin-pos (capacities q) (suc d) n thick)))

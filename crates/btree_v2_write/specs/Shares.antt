@@ -2,10 +2,11 @@
 use Prim.Native.Nat.{ℕ, zero, suc, _+_, _-_, _*_, _^_, _≤_, _<_}
 use mathlib.Core.List.{List, [], _∷_, _++_}
 use Rattle.numbers.specs.Numbers.{le, part}
+use Rattle.node_info.specs.Capacity.{childPointerSize}
 use Rattle.format.specs.Bytes.{internalSignature}
 use Rattle.btree_v2_write.specs.declared.node.Child.{Child}
 use Rattle.btree_v2_write.specs.declared.node.InternalNode.{InternalNode}
-use Rattle.btree_v2_stamp.specs.declared.Layout.{Layout}
+use Rattle.format.specs.declared.Request.{Request}
 
 -- The first k of children of which the first `extra` are `large` and the others `small`.
 unfoldable pub twoSizes : {A : Type 0} → ℕ → ℕ → A → A → List A
@@ -23,18 +24,15 @@ unfoldable pub recordsAfter : ℕ → List ℕ → List ℕ → ℕ → List ℕ
 recordsAfter rs recs [] r = []
 recordsAfter rs recs (m ∷ ms) r = part recs ((r + m) * rs) rs ++ recordsAfter rs recs ms (r + m + 1)
 
--- A pointer's width where totals have t bytes, and its bytes; the child's first node is node j.
-abbrev pub pointerSize : Layout → ℕ → ℕ
-pointerSize l t = l .«offset_size» + l .«count_size» + t
-
-unfoldable pub pointerTo : Layout → ℕ → Child → ℕ → List ℕ
-pointerTo l t x j =
-    le (l .«offset_size») (l .start + (j + (x .nodes - 1)) * l .«node_size») ++ (le (l .«count_size») (x .records) ++ le t (x .total))
+-- The bytes of a pointer whose record count has w bytes and whose total has t; the child's first node is node j.
+unfoldable pub pointerTo : Request → ℕ → ℕ → Child → ℕ → List ℕ
+pointerTo q w t x j =
+    le (q .geometry .«offset_size») (q .start + (j + (x .nodes - 1)) * q .geometry .«node_size») ++ (le w (x .records) ++ le t (x .total))
 
 -- The pointers to these children; the first node below is node j.
-unfoldable pub pointersTo : Layout → ℕ → List Child → ℕ → List ℕ
-pointersTo l t [] j = []
-pointersTo l t (x ∷ xs) j = pointerTo l t x j ++ pointersTo l t xs (j + x .nodes)
+unfoldable pub pointersTo : Request → ℕ → ℕ → List Child → ℕ → List ℕ
+pointersTo q w t [] j = []
+pointersTo q w t (x ∷ xs) j = pointerTo q w t x j ++ pointersTo q w t xs (j + x .nodes)
 
 unfoldable pub nodesOfAll : List Child → ℕ
 nodesOfAll [] = 0
@@ -47,20 +45,40 @@ childShares x = twoSizes (x .kept) (x .extra) (x .base + 1) (x .base)
 abbrev pub childrenOf : InternalNode → List Child
 childrenOf x = twoSizes (x .kept + 1) (x .extra) (x .large) (x .small)
 
+-- The bytes of a pointer of the node.
+abbrev pub pointerSize : Request → InternalNode → ℕ
+pointerSize q x = childPointerSize (q .geometry) (x .«count_size») (x .«total_size»)
+
+-- The pointer to child x fits at `at` of a node of this length, and the address that is in it fits.
+pub record PointerFits (q : Request) (length at : ℕ) (x : Child) (w t j : ℕ) : Type 0 where
+  pub bytes : at + childPointerSize (q .geometry) w t ≤ length
+  pub some : 0 < x .nodes
+  pub size : 0 < q .geometry .«node_size»
+  pub short : q .start + (j + x .nodes) * q .geometry .«node_size» < 2 ^ 64
+
+-- So do the pointers to all children of x.
+pub record PointersFit (q : Request) (length at : ℕ) (x : InternalNode) : Type 0 where
+  pub bytes : at + (x .kept + 1) * pointerSize q x ≤ length
+  pub large : 0 < x .large .nodes
+  pub small : 0 < x .small .nodes
+  pub size : 0 < q .geometry .«node_size»
+  pub short : q .start + (x .«first_node» + nodesOfAll (childrenOf x)) * q .geometry .«node_size» < 2 ^ 64
+  pub few : x .kept < 2 ^ 32
+
 -- An internal node's bytes before its checksum.
-unfoldable pub internalNodeBytes : Layout → List ℕ → InternalNode → List ℕ
-internalNodeBytes l recs x =
+unfoldable pub internalNodeBytes : Request → List ℕ → InternalNode → List ℕ
+internalNodeBytes q recs x =
     internalSignature
     ++ (0
-    ∷ l .«tree_type»
-    ∷ (recordsAfter (l .«record_size») recs (childShares x) (x .«first_record»)
-    ++ pointersTo l (x .«total_size») (childrenOf x) (x .«first_node»)))
+    ∷ q .«tree_type»
+    ∷ (recordsAfter (q .geometry .«record_size») recs (childShares x) (x .«first_record»)
+    ++ pointersTo q (x .«count_size») (x .«total_size») (childrenOf x) (x .«first_node»)))
 
 -- The numbers of an internal node that can be filled from a record list of this length.
-pub record InternalNodeFits (l : Layout) (records : ℕ) (x : InternalNode) : Type 0 where
-  pub size : 0 < l .«record_size»
+pub record InternalNodeFits (q : Request) (records : ℕ) (x : InternalNode) : Type 0 where
+  pub size : 0 < q .geometry .«record_size»
   pub few : (x .kept < 2 ^ 32) × (x .base < 2 ^ 32)
-  pub bytes : 10 + (x .kept * l .«record_size» + (x .kept + 1) * pointerSize l (x .«total_size»)) ≤ l .«node_size»
-  pub inList : (x .«first_record» + withOne (childShares x)) * l .«record_size» ≤ records
+  pub bytes : 10 + (x .kept * q .geometry .«record_size» + (x .kept + 1) * pointerSize q x) ≤ q .geometry .«node_size»
+  pub inList : (x .«first_record» + withOne (childShares x)) * q .geometry .«record_size» ≤ records
   pub some : (0 < x .large .nodes) × (0 < x .small .nodes)
-  pub short : l .start + (x .«first_node» + nodesOfAll (childrenOf x)) * l .«node_size» < 2 ^ 64
+  pub short : q .start + (x .«first_node» + nodesOfAll (childrenOf x)) * q .geometry .«node_size» < 2 ^ 64

@@ -7,9 +7,9 @@ ghost use lib.Dec.{ltb};
 ghost use Rattle.numbers.specs.Numbers.{pick, le, part};
 ghost use Rattle.numbers.specs.Places.{stored};
 ghost use Rattle.format.specs.Bytes.{padded, leafBytes};
-ghost use Rattle.btree_v2_stamp.specs.Layouts.{formAt};
-ghost use Rattle.btree_v2_write.specs.Shares.{twoSizes, withOne, recordsAfter, pointerSize, pointerTo, pointersTo, nodesOfAll, InternalNodeFits, internalNodeBytes};
-use btree_v2_stamp::Layout;
+ghost use Rattle.node_info.specs.Capacity.{childPointerSize};
+ghost use Rattle.btree_v2_write.specs.Shares.{twoSizes, withOne, recordsAfter, pointerSize, pointerTo, pointersTo, childrenOf, PointerFits, PointersFit, InternalNodeFits, internalNodeBytes};
+use format::Request;
 
 // Puts `count` bytes of the record list, from its place `first` on, at `at`.
 fn put_records(node: &mut [u8], at: usize, records: &[u8], first: usize, count: usize)
@@ -28,31 +28,34 @@ fn put_number(node: &mut [u8], at: usize, x: u64, width: usize) -> usize
 }
 
 // Fills a leaf of n records, the first of them record r.
-fn fill_leaf(node: &mut [u8], layout: Layout, records: &[u8], n: usize, r: usize)
-    requires { ⌜ (layout .«node_size» ≤ length (now node)) × (10 + n * layout .«record_size» ≤ layout .«node_size») × ((r + n) * layout .«record_size» ≤ length (now records)) ⌝ }
-    ensures { λ _. ⌜ now (node .exit) ≡ stored (now (node .entry)) 0 (padded (layout .«node_size») (leafBytes (formAt layout) (layout .start) (now (records .entry)) n r)) ⌝ }
+fn fill_leaf(node: &mut [u8], request: Request, records: &[u8], n: usize, r: usize)
+    requires { ⌜ (request .geometry .«node_size» ≤ length (now node)) × (10 + n * request .geometry .«record_size» ≤ request .geometry .«node_size») × ((r + n) * request .geometry .«record_size» ≤ length (now records)) ⌝ }
+    ensures { λ _. ⌜ now (node .exit) ≡ stored (now (node .entry)) 0 (padded (request .geometry .«node_size») (leafBytes request (now (records .entry)) n r)) ⌝ }
 {
-    let size = layout.record_size;
+    let geometry = request.geometry;
+    let size = geometry.record_size as usize;
     let bytes = n * size;
-    btree_v2_stamp::put_front(node, b'L', b'F', layout.tree_type);
-    put_records(node, 6, records, r * size, bytes);
-    btree_v2_stamp::stamp(node, 6 + bytes, layout.node_size);
+    let prefix = format::PREFIX_SIZE as usize;
+    btree_v2_stamp::put_front(node, b'L', b'F', request.tree_type);
+    put_records(node, prefix, records, r * size, bytes);
+    btree_v2_stamp::stamp(node, prefix + bytes, geometry.node_size as usize);
 }
 
 // Writes a leaf as node j of the image.
 pub(crate) fn write_leaf(
     image: &mut [u8],
-    layout: Layout,
+    request: Request,
     records: &[u8],
     n: usize,
     r: usize,
     j: usize,
 )
-    requires { ⌜ ((j + 1) * layout .«node_size» ≤ length (now image)) × (10 + n * layout .«record_size» ≤ layout .«node_size») × ((r + n) * layout .«record_size» ≤ length (now records)) ⌝ }
-    ensures { λ _. ⌜ now (image .exit) ≡ stored (now (image .entry)) (j * layout .«node_size») (padded (layout .«node_size») (leafBytes (formAt layout) (layout .start) (now (records .entry)) n r)) ⌝ }
+    requires { ⌜ ((j + 1) * request .geometry .«node_size» ≤ length (now image)) × (10 + n * request .geometry .«record_size» ≤ request .geometry .«node_size») × ((r + n) * request .geometry .«record_size» ≤ length (now records)) ⌝ }
+    ensures { λ _. ⌜ now (image .exit) ≡ stored (now (image .entry)) (j * request .geometry .«node_size») (padded (request .geometry .«node_size») (leafBytes request (now (records .entry)) n r)) ⌝ }
 {
-    let at = j * layout.node_size;
-    fill_leaf(&mut image[at..], layout, records, n, r);
+    let geometry = request.geometry;
+    let at = j * (geometry.node_size as usize);
+    fill_leaf(&mut image[at..], request, records, n, r);
 }
 
 // A child in numbers, as its writing returns it: its root's records, all its records, and its nodes.
@@ -84,7 +87,7 @@ fn put_own_records(
     requires { ⌜ (base < 2 ^ 32) × (6 + kept * «record_size» ≤ length (now node)) × ((r + withOne (twoSizes kept extra (base + 1) base)) * «record_size» ≤ length (now records)) × (0 < «record_size») ⌝ }
     ensures { λ p. ⌜ (now (node .exit) ≡ stored (now (node .entry)) 6 (recordsAfter «record_size» (now (records .entry)) (twoSizes kept extra (base + 1) base) r)) × (p ≡ 6 + kept * «record_size») ⌝ }
 {
-    let mut at = 6;
+    let mut at = format::PREFIX_SIZE as usize;
     let mut next_record = r;
     let mut i = 0;
     while i < kept {
@@ -98,58 +101,12 @@ fn put_own_records(
 }
 
 // The address of node j.
-pub(crate) fn node_address(layout: Layout, j: usize) -> u64
-    requires { ⌜ layout .start + j * layout .«node_size» < 2 ^ 64 ⌝ }
-    ensures { λ a. ⌜ a ≡ layout .start + j * layout .«node_size» ⌝ }
+pub(crate) fn node_address(request: Request, j: usize) -> u64
+    requires { ⌜ request .start + j * request .geometry .«node_size» < 2 ^ 64 ⌝ }
+    ensures { λ a. ⌜ a ≡ request .start + j * request .geometry .«node_size» ⌝ }
 {
-    layout.start + ((j * layout.node_size) as u64)
-}
-
-// Puts the pointer to a child whose first node is node j, and gives the place after it.
-fn put_pointer(
-    node: &mut [u8],
-    layout: Layout,
-    at: usize,
-    child: Child,
-    total_size: usize,
-    j: usize,
-) -> usize
-    requires { ⌜ (at + pointerSize layout «total_size» ≤ length (now node)) × (0 < child .nodes) × (0 < layout .«node_size») × (layout .start + (j + child .nodes) * layout .«node_size» < 2 ^ 64) ⌝ }
-    ensures { λ p. ⌜ (now (node .exit) ≡ stored (now (node .entry)) at (pointerTo layout «total_size» child j)) × (p ≡ at + pointerSize layout «total_size») ⌝ }
-{
-    let address = node_address(layout, j + (child.nodes - 1));
-    let at = put_number(node, at, address, layout.offset_size);
-    let at = put_number(node, at, child.records, layout.count_size);
-    put_number(node, at, child.total, total_size)
-}
-
-// Puts the pointers to `kept` + 1 children, the first `extra` of them `large`, the others `small`; the first node below is node j. Gives the
-// place after them.
-fn put_pointers(
-    node: &mut [u8],
-    layout: Layout,
-    at: usize,
-    kept: usize,
-    extra: usize,
-    large: Child,
-    small: Child,
-    total_size: usize,
-    j: usize,
-) -> usize
-    requires { ⌜ (at + (kept + 1) * pointerSize layout «total_size» ≤ length (now node)) × (0 < large .nodes) × (0 < small .nodes) × (0 < layout .«node_size»)
-        × (layout .start + (j + nodesOfAll (twoSizes (kept + 1) extra large small)) * layout .«node_size» < 2 ^ 64) × (kept < 2 ^ 32) ⌝ }
-    ensures { λ p. ⌜ (now (node .exit) ≡ stored (now (node .entry)) at (pointersTo layout «total_size» (twoSizes (kept + 1) extra large small) j)) × (p ≡ at + (kept + 1) * pointerSize layout «total_size») ⌝ }
-{
-    let mut at = at;
-    let mut next = j;
-    let mut i = 0;
-    while i <= kept {
-        let child = one_of(extra, large, small, i);
-        at = put_pointer(node, layout, at, child, total_size, next);
-        next += child.nodes;
-        i += 1;
-    }
-    at
+    let geometry = request.geometry;
+    request.start + ((j * (geometry.node_size as usize)) as u64)
 }
 
 // The child at i: `large` for the first `extra`, else `small`.
@@ -160,62 +117,95 @@ fn one_of(extra: usize, large: Child, small: Child, i: usize) -> Child
 }
 
 // An internal node in numbers: it keeps `kept` records; its `kept` + 1 children have `base` records, the first `extra` of them one more; the
-// first nodes and records below it are node `first_node` and record `first_record`; totals have `total_size` bytes.
+// first nodes and records below it are node `first_node` and record `first_record`; in a pointer, record counts have `count_size` bytes and
+// totals `total_size`.
 pub(crate) struct InternalNode {
     pub(crate) kept: usize,
     pub(crate) base: usize,
     pub(crate) extra: usize,
     pub(crate) large: Child,
     pub(crate) small: Child,
+    pub(crate) count_size: usize,
     pub(crate) total_size: usize,
     pub(crate) first_node: usize,
     pub(crate) first_record: usize,
 }
 
-// Fills an internal node.
-fn fill_internal(node: &mut [u8], layout: Layout, records: &[u8], internal: InternalNode)
-    requires { ⌜ InternalNodeFits layout (length (now records)) internal ⌝ ∗ ⌜ layout .«node_size» ≤ length (now node) ⌝ }
-    ensures { λ _. ⌜ now (node .exit) ≡ stored (now (node .entry)) 0 (padded (layout .«node_size») (internalNodeBytes layout (now (records .entry)) internal)) ⌝ }
+// Puts the pointer to a child whose first node is node j, with a record count and a total of these sizes, and gives the place after it.
+fn put_pointer(
+    node: &mut [u8],
+    request: Request,
+    at: usize,
+    child: Child,
+    count_size: usize,
+    total_size: usize,
+    j: usize,
+) -> usize
+    requires { ⌜ PointerFits request (length (now node)) at child «count_size» «total_size» j ⌝ }
+    ensures { λ p. ⌜ (now (node .exit) ≡ stored (now (node .entry)) at (pointerTo request «count_size» «total_size» child j)) × (p ≡ at + childPointerSize (request .geometry) «count_size» «total_size») ⌝ }
+{
+    let geometry = request.geometry;
+    let address = node_address(request, j + (child.nodes - 1));
+    let at = put_number(node, at, address, geometry.offset_size as usize);
+    let at = put_number(node, at, child.records, count_size);
+    put_number(node, at, child.total, total_size)
+}
+
+// Puts the pointers to a node's children from `at` on, and gives the place after them.
+fn put_pointers(node: &mut [u8], request: Request, at: usize, internal: InternalNode) -> usize
+    requires { ⌜ PointersFit request (length (now node)) at internal ⌝ }
+    ensures { λ p. ⌜ (now (node .exit) ≡ stored (now (node .entry)) at (pointersTo request (internal .«count_size») (internal .«total_size») (childrenOf internal) (internal .«first_node»))) × (p ≡ at + (internal .kept + 1) * pointerSize request internal) ⌝ }
 {
     let kept = internal.kept;
     let extra = internal.extra;
     let large = internal.large;
     let small = internal.small;
-    btree_v2_stamp::put_front(node, b'I', b'N', layout.tree_type);
+    let count_size = internal.count_size;
+    let total_size = internal.total_size;
+    let mut at = at;
+    let mut next = internal.first_node;
+    let mut i = 0;
+    while i <= kept {
+        let child = one_of(extra, large, small, i);
+        at = put_pointer(node, request, at, child, count_size, total_size, next);
+        next += child.nodes;
+        i += 1;
+    }
+    at
+}
+
+// Fills an internal node.
+fn fill_internal(node: &mut [u8], request: Request, records: &[u8], internal: InternalNode)
+    requires { ⌜ InternalNodeFits request (length (now records)) internal ⌝ ∗ ⌜ request .geometry .«node_size» ≤ length (now node) ⌝ }
+    ensures { λ _. ⌜ now (node .exit) ≡ stored (now (node .entry)) 0 (padded (request .geometry .«node_size») (internalNodeBytes request (now (records .entry)) internal)) ⌝ }
+{
+    let geometry = request.geometry;
+    btree_v2_stamp::put_front(node, b'I', b'N', request.tree_type);
     let at = put_own_records(
         node,
-        layout.record_size,
+        geometry.record_size as usize,
         records,
-        kept,
+        internal.kept,
         internal.base,
-        extra,
+        internal.extra,
         internal.first_record,
     );
-    let end = put_pointers(
-        node,
-        layout,
-        at,
-        kept,
-        extra,
-        large,
-        small,
-        internal.total_size,
-        internal.first_node,
-    );
-    btree_v2_stamp::stamp(node, end, layout.node_size);
+    let end = put_pointers(node, request, at, internal);
+    btree_v2_stamp::stamp(node, end, geometry.node_size as usize);
 }
 
 // Writes an internal node as node j of the image.
 pub(crate) fn write_internal(
     image: &mut [u8],
-    layout: Layout,
+    request: Request,
     records: &[u8],
     internal: InternalNode,
     j: usize,
 )
-    requires { ⌜ InternalNodeFits layout (length (now records)) internal ⌝ ∗ ⌜ (j + 1) * layout .«node_size» ≤ length (now image) ⌝ }
-    ensures { λ _. ⌜ now (image .exit) ≡ stored (now (image .entry)) (j * layout .«node_size») (padded (layout .«node_size») (internalNodeBytes layout (now (records .entry)) internal)) ⌝ }
+    requires { ⌜ InternalNodeFits request (length (now records)) internal ⌝ ∗ ⌜ (j + 1) * request .geometry .«node_size» ≤ length (now image) ⌝ }
+    ensures { λ _. ⌜ now (image .exit) ≡ stored (now (image .entry)) (j * request .geometry .«node_size») (padded (request .geometry .«node_size») (internalNodeBytes request (now (records .entry)) internal)) ⌝ }
 {
-    let at = j * layout.node_size;
-    fill_internal(&mut image[at..], layout, records, internal);
+    let geometry = request.geometry;
+    let at = j * (geometry.node_size as usize);
+    fill_internal(&mut image[at..], request, records, internal);
 }

@@ -45,7 +45,7 @@ module _ (q : Request) (recs : List ℕ) where
 
   module _ (d : ℕ) where
     pub length-pointer : (t : Tree d) (j : ℕ) → length (pointer q recs d t j) ≡ pointerSizeTo (q .geometry) d
-    unfolding pointer pointerBytes childPointerSize
+    unfolding pointer pointerBytes
     length-pointer t j = simp (length-append, le-length) (omega arith)
 
     pub length-pointers : (ts : Kids (Tree d)) (j : ℕ) → length (pointers q recs d ts j) ≡ (between ts + 1) * pointerSizeTo (q .geometry) d

@@ -121,7 +121,7 @@ module _ (g : Geometry) where
   -- or more make C at least a power, as far as it is not saturated.
   module _ (pos : 0 < g .«record_size») where
     node-down : (u : ℕ) → nodeCapacity g (suc u) ≤ nodeCapacity g u
-    unfolding nodeCapacity internalCapacity leafCapacity childPointerSize
+    unfolding nodeCapacity internalCapacity leafCapacity
     node-down zero = div-le _ _ pos (sub-le _ _) (omega arith)
     node-down (suc u) = div-le _ _ (omega arith) (omega (arith, total-up u)) (omega (arith, total-up u))
 

@@ -52,7 +52,7 @@ module _ (g : Geometry) where
   -- The level above.
   pub level-is : (w t c m a x : ℕ) → m ≡ internalCapacity g (g .«offset_size» + w + t) → a ≡ subtree m c → x ≡ width a
       → _≡_ {A = Level} (record { most = m; all = a; total = x }) (levelAbove g (childPointerSize g w t) c)
-  unfolding levelAbove childPointerSize
+  unfolding levelAbove
   level-is w t c m a x hm ha hx = rw (hx, ha, hm)
 
   -- The table of the leaves alone.

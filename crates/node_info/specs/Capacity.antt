@@ -22,7 +22,7 @@ abbrev pub subtree : ℕ → ℕ → ℕ
 subtree m c = saturated ((m + 1) * c + m)
 
 -- P(u) of a level whose child pointers have record counts of w = W bytes and totals of t = T(u - 1).
-unfoldable pub childPointerSize : Geometry → ℕ → ℕ → ℕ
+abbrev pub childPointerSize : Geometry → ℕ → ℕ → ℕ
 childPointerSize g w t = g .«offset_size» + w + t
 
 -- M(u) of a level whose child pointers have p = P(u) bytes.

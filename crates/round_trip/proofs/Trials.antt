@@ -228,7 +228,7 @@ disagreeing i [] = []
 disagreeing i (t ∷ ts) = let rest = disagreeing (i + 1) ts in pick (same (t .found) (t .due)) rest (i ∷ rest)
 
 agree : disagreeing 0 (writes ++ (reads ++ collects)) ≡ []
-unfolding computed le unle num leastFrom width fieldSize stored cells leafCapacity countWidth childPointerSize internalCapacity subtreeCapacity
+unfolding computed le unle num leastFrom width fieldSize stored cells leafCapacity countWidth internalCapacity subtreeCapacity
     totalWidth nodeCapacity sumKids between count size below nodes leaves taken distributed children kidsOf planTree anyOf thin
     leastLevel planDepth emptyLevel planned planFigures planAnswer summed padded pointerBytes address recordRange leafBytes pointer pointers ownRecords internalBytes
     kidsImage image headerBytes over formOf nodesOf imageOf rootOf rootRecordsOf headerOf writeAnswer written headerExit imageExit putRecord

@@ -46,7 +46,6 @@ module _ (q : Request) where
     positive = omega arith
 
     node-fits : (u : ℕ) (t : Tree u) → WithinBoth u t → 1 ≤ count u t → nodeLength (q .geometry) u (count u t) ≤ q .geometry .«node_size»
-    unfolding childPointerSize
     node-fits zero t w f = leaf-bytes (q .geometry) (count 0 t) low (w .0)
     node-fits (suc u) t w f = internal-bytes (q .geometry) u (count (suc u) t) (omega arith) (w .0)
 

@@ -1,7 +1,6 @@
 -- The image, and then the header.
-use Rattle.btree_v2_write.proofs.Calls.{image-ready, root-some, node-short, both-done}
+use Rattle.btree_v2_write.proofs.Calls.{image-ready, root-some, root-short, both-done}
 use borrow.Author.Needs.{needs}
-use native.Mathlib.Omega.{arith}
 use Rattle.btree_v2_write.proofs.write_planned.Statement.{statement}
 use Rattle.btree_v2_write.proofs.write_planned.Tie as tie
 
@@ -9,23 +8,13 @@ pub write-planned-spec : {M : Type 1} → statement M
 write-planned-spec =
     tie.close
     (tie.spec
-    (λ c κs. search needs)
+    (λ c. search needs)
     (λ c. search needs)
     (λ c κs. search image-ready)
     (λ c. search needs)
-    (λ c. search needs)
     (λ c. search (root-some, needs))
-    (λ c κs.
-    let drawn = c .before .before .before .before .before .before in
-    let laid = drawn .before .before .before .before .before .before .before in
-    let start = laid .before .before .before .before in
-    node-short (start .args .request) (start .pre) (laid .layout-of .ensures) (drawn .write-image .ensures) _ (omega arith))
+    (λ c κs. search root-short)
     (λ c κs. search needs)
     (λ c. search needs)
     (λ c. search needs)
-    (λ c.
-    let put = c .before .before in
-    let drawn = put .before .before .before .before .before .before .before .before in
-    let laid = drawn .before .before .before .before .before .before .before in
-    let start = laid .before .before .before .before in
-    both-done (start .args .request) (start .pre) (laid .layout-of .ensures) (drawn .write-image .ensures) (put .before .node-address .ensures) (put .write-header .ensures)))
+    (λ c. search both-done))

@@ -13,6 +13,7 @@ write-internal-spec =
     (λ c. search needs)
     (λ c. search needs)
     (λ c. search needs)
+    (λ c. search needs)
     (λ c κs. search needs)
     (λ c. search needs)
     (λ c. node-placed _ _ _ _ (omega arith) (c .before .before .fill-internal .ensures)))

@@ -29,11 +29,11 @@ abbrev write-subtree-below : ℕ → In 4 write-subtree-kinds.ps
 write-subtree-below t = and 4 write-subtree-kinds.ps (falls 4 write-subtree-kinds.ps _<_ μ-write-subtree t) write-subtree.Pre
 
 abbrev Inv-loop : write-subtree-lts.InvT-loop
-Inv-loop o₁ l recs depth n j r most totals under distributed k b x first large small₁ next₁ row₁ i₁ o small next nextRecord i =
-    KidsLeft l most totals recs o₁ depth n j r k b x large o small next nextRecord i
+Inv-loop o₁ q recs depth n j r cs most totals under distributed k b x first large small₁ next₁ row₁ i₁ o small next nextRecord i =
+    KidsLeft q cs most totals recs o₁ depth n j r k b x large o small next nextRecord i
 
 abbrev μ-loop : write-subtree-lts.MeasureT-loop
-μ-loop o₁ l recs depth n j r most totals under distributed k b x first large small₁ next₁ row₁ i₁ o small next nextRecord i = k + 1 - i
+μ-loop o₁ q recs depth n j r cs most totals under distributed k b x first large small₁ next₁ row₁ i₁ o small next nextRecord i = k + 1 - i
 
 abbrev claims : ℕ → write-subtree-lts.Claims
 claims t =
@@ -48,7 +48,7 @@ module _ (t : ℕ) where
   DistributedAt c =
       let a = c .before .before .before .before .before .args in
       let y = c .distribute .result in
-      Distribution (a .layout) (a .most .now) (a .total-sizes .now) (length (a .records .now)) (length (a .image .now)) (a .depth) (a .n) (a .j) (a .r) (y .kept) (y .base) (y .extra)
+      Distribution (a .request) (a .count-size) (a .most .now) (a .total-sizes .now) (length (a .records .now)) (length (a .image .now)) (a .depth) (a .n) (a .j) (a .r) (y .kept) (y .base) (y .extra)
 
   distributed : (c : AfterDeal) → DistributedAt c
   distributed c =
