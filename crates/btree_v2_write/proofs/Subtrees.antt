@@ -236,7 +236,7 @@ internalNodeAt k b x large small w t j r =
 module _ (q : Request) (cs : ℕ) (most totals recs : List ℕ) (depth n j r k b x : ℕ) (o : List ℕ)
     (given : Ready q cs most totals (length recs) (length o) depth n j r) (pos : depth ≡ 0 → ⊥) (kept : k ≡ taken (getD most (depth - 1) 0) n)
     (base : b ≡ share (getD most (depth - 1) 0) n) (more : x ≡ extra (getD most (depth - 1) 0) n) where
-  now-distributed : Distribution q cs most totals (length recs) (length o) depth n j r k b x
+  pub now-distributed : Distribution q cs most totals (length recs) (length o) depth n j r k b x
   now-distributed = record { given = given; pos = pos; kept = kept; base = base; extra = more }
 
   pub share-few : b < 2 ^ 32
@@ -276,6 +276,12 @@ module _ {q : Request} {cs : ℕ} {most totals recs : List ℕ} {depth n j r k b
       let nodes = rw (first-left distributed e) at (nodes-all distributed) in
       node-fits distributed (j + large .nodes) (omega (arith, wrote .child .nodes, nodes))
 
+  pub first-record-fits : Fits w64 (r + large .total)
+  first-record-fits = record-fits distributed _ (omega (arith, first-within))
+
+  pub first-after-fits : Fits w64 (r + large .total + 1)
+  first-after-fits = record-fits distributed _ (omega (arith, first-within))
+
   pub loop-start : (small : Child) → length o₁ ≡ length o
       → KidsLeft q cs most totals recs o₁ depth n j r k b x large o₁ small (j + large .nodes) (r + large .total + 1) 1
   unfolding sumOf
@@ -312,6 +318,9 @@ module _ {q : Request} {cs : ℕ} {most totals recs : List ℕ} {depth n j r k b
     unfolding withOne
     kid-records = let q = rw kid-left at (inv .inList) in omega (arith, q)
 
+    pub turn-fits : Fits w64 (i + 1)
+    turn-fits = omega (arith, kept-small (inv .distributed))
+
     pub kid-ready : Ready q cs most totals (length recs) (length o) d m next nextRecord
     kid-ready = kid (inv .distributed) i m next nextRecord (inv .long) e (omega (arith, kid-nodes)) (omega (arith, kid-records))
 
@@ -324,6 +333,15 @@ module _ {q : Request} {cs : ℕ} {most totals recs : List ℕ} {depth n j r k b
 
       pub kid-next : next + z .nodes ≤ j + subtreeNodes q (suc d) n
       kid-next = omega (arith, wrote .child .nodes, kid-nodes, nodes-all (inv .distributed))
+
+      pub kid-next-fits : Fits w64 (next + z .nodes)
+      kid-next-fits = node-fits (inv .distributed) _ kid-next
+
+      pub kid-record-fits : Fits w64 (nextRecord + z .total)
+      kid-record-fits = record-fits (inv .distributed) _ (omega (arith, kid-record))
+
+      pub kid-after-fits : Fits w64 (nextRecord + z .total + 1)
+      kid-after-fits = record-fits (inv .distributed) _ kid-record
 
       pub loop-turn : KidsLeft q cs most totals recs o₁ depth n j r k b x large o′ z (next + z .nodes) (nextRecord + z .total + 1) (i + 1)
       unfolding images

@@ -16,7 +16,7 @@ use native.Mathlib.Omega.{arith}
 use lib.ListN.{length}
 use borrow.Author.Needs.{needs}
 use Rattle.btree_v2_write.proofs.Subtrees.{leaf-room, leaf-fits, leaf-done, Distribution, base-few, kept-small, width-small, node-fits, record-fits, share-few, first-asked}
-use Rattle.btree_v2_write.proofs.Subtrees.{first-within, first-next-fits, loop-start, KidsLeft, kid-ready, kid-record, kid-next, loop-turn}
+use Rattle.btree_v2_write.proofs.Subtrees.{now-distributed, first-next-fits, first-record-fits, first-after-fits, loop-start, KidsLeft, turn-fits, kid-ready, kid-next-fits, kid-record-fits, kid-after-fits, loop-turn}
 use Rattle.btree_v2_write.proofs.Subtrees.{record-is, next-is, next-least, root-fits, root-room, root-done}
 
 abbrev μ-write-subtree : Measures 4 write-subtree-kinds.ps ℕ
@@ -74,56 +74,26 @@ pub +write-subtree-spec : {M : Type 1} → statement M
     (λ c κs. search needs)
     (λ c κs. search share-few)
     (λ c κs. (omega arith, search first-asked))
-    (λ c.
-    let begun = c .before .before .before in
-    let known = distributed t (begun .before .before .before) in
-    first-next-fits known (begun .before .before .share .ensures) (begun .write-subtree .ensures))
-    (λ c.
-    let begun = c .before .before .before in
-    let known = distributed t (begun .before .before .before) in
-    record-fits known _ (omega (arith, first-within known (begun .before .before .share .ensures) (begun .write-subtree .ensures))))
-    (λ c.
-    let begun = c .before .before .before in
-    let known = distributed t (begun .before .before .before) in
-    record-fits known _ (omega (arith, first-within known (begun .before .before .share .ensures) (begun .write-subtree .ensures))))
-    (λ c.
-    let begun = c .before .before .before in
-    let known = distributed t (begun .before .before .before) in
-    let start = loop-start known (begun .before .before .share .ensures) (begun .write-subtree .ensures) (record { records = 0; total = 0; nodes = 0 }) (begun .write-subtree .kept .0) in
-    record {
-      distributed = start .distributed;
-      of-first = start .of-first;
-      of-last = start .of-last;
-      within = start .within;
-      reached = start .reached;
-      inList = start .inList;
-      long = start .long;
-      left = start .left;
-    })
+    (λ c. search (first-next-fits, distributed t (c .before .before .before .before .before .before)))
+    (λ c. search (first-record-fits, distributed t (c .before .before .before .before .before .before)))
+    (λ c. search (first-after-fits, distributed t (c .before .before .before .before .before .before)))
+    (λ c. search (loop-start, c .before .before .before .write-subtree .kept .0, distributed t (c .before .before .before .before .before .before)))
     (λ c κs. search base-few)
     (λ c κs. (omega arith, kid-ready (c .before .before .before .loop .inv) (c .before .before .loop-test .taken) (c .before .share2 .ensures)))
     (λ c.
-    let wrote = c .before .before .before .write-subtree2 .ensures in
     let turn = c .before .before .before .before .before in
-    let inv = turn .before .before .loop .inv in
-    node-fits (inv .distributed) _ (kid-next inv (turn .before .loop-test .taken) (turn .share2 .ensures) wrote))
+    kid-next-fits (turn .before .before .loop .inv) (turn .before .loop-test .taken) (turn .share2 .ensures) (c .before .before .before .write-subtree2 .ensures))
     (λ c.
-    let wrote = c .before .before .before .write-subtree2 .ensures in
     let turn = c .before .before .before .before .before in
-    let inv = turn .before .before .loop .inv in
-    record-fits (inv .distributed) _ (omega (arith, kid-record inv (turn .before .loop-test .taken) (turn .share2 .ensures) wrote)))
+    kid-record-fits (turn .before .before .loop .inv) (turn .before .loop-test .taken) (turn .share2 .ensures) (c .before .before .before .write-subtree2 .ensures))
     (λ c.
-    let wrote = c .before .before .before .write-subtree2 .ensures in
     let turn = c .before .before .before .before .before in
-    let inv = turn .before .before .loop .inv in
-    record-fits (inv .distributed) _ (omega (arith, kid-record inv (turn .before .loop-test .taken) (turn .share2 .ensures) wrote)))
-    (λ c. omega (arith, kept-small (c .before .before .before .before .before .before .before .loop .inv .distributed)))
+    kid-after-fits (turn .before .before .loop .inv) (turn .before .loop-test .taken) (turn .share2 .ensures) (c .before .before .before .write-subtree2 .ensures))
+    (λ c. search turn-fits)
     (λ c. search needs)
     (λ c.
-    let wrote = c .before .before .before .write-subtree2 .ensures in
     let turn = c .before .before .before .before .before in
-    let inv = turn .before .before .loop .inv in
-    loop-turn inv (turn .before .loop-test .taken) (turn .share2 .ensures) wrote)
+    loop-turn (turn .before .before .loop .inv) (turn .before .loop-test .taken) (turn .share2 .ensures) (c .before .before .before .write-subtree2 .ensures))
     (λ c. search needs)
     (λ c. width-small (c .before .before .loop .inv .distributed))
     (λ c κs.
