@@ -16,13 +16,13 @@ use Rattle.refusal.specs.Answer.{Answer, accepted, refused, refusalOf, orElse, 
 use Rattle.format.specs.Bytes.{headerSignature}
 use Rattle.read_checks.specs.Tests.{needs, same, checksumTest}
 use Rattle.btree_v2_header.specs.Header.{headerFigures, headerAt, parsed}
-use Rattle.btree_v2_header.specs.Answers.{headerAnswerOf, Parses}
+use Rattle.btree_v2_header.specs.Answers.{Parses}
 use Rattle.btree_v2_header.specs.declared.BTreeV2Header.{BTreeV2Header}
 use Rattle.btree_v2_header.specs.declared.HeaderAnswer.the-variants as header
 use Rattle.refusal.specs.declared.Refusal.the-variants.{InvalidBTreeV2Signature, InvalidBTreeV2Version, InvalidOffsetSize, InvalidLengthSize}
 use Rattle.refusal.specs.declared.Verdict.{Verdict}
 use Rattle.refusal.specs.declared.Verdict.the-variants.{Accepted, Refused}
-use Rattle.btree_v2_header.specs.Parsing.{Begun}
+use Rattle.btree_v2_header.specs.Parsing.{Begun, FieldsThere}
 use Rattle.read_checks.proofs.Checks.{bytes-missing, sum-right, sum-wrong}
 
 -- A number in one byte.
@@ -149,10 +149,12 @@ module _ (file : List ℕ) (o ow lw : ℕ) where
                     fields = λ g f. let same : h ≡ g = cc in rw (← same) e;
                   }
 
--- Of `len` bytes: where the whole header is there, so are its fields; where its first 16 bytes are, so is each of these.
-pub fields-there : (len o ow lw : ℕ) → o + (16 + ow + 2 + lw + 4) ≤ len → o + 18 + ow + lw ≤ len
-fields-there len o ow lw h = omega arith
+-- Where the whole header is there, so are its fields.
+pub fields-there : (file : List ℕ) (o ow lw : ℕ) → Begun file o ow → o + (16 + ow + 2 + lw + 4) ≤ length file → fieldSize lw ≡ true
+    → FieldsThere file o ow lw
+fields-there file o ow lw b h sized = record { there = omega arith; offsets = b .size; lengths = sized }
 
+-- Of `len` bytes, where the first 16 of a header are there: so is each of these.
 module _ (len o k : ℕ) (h : o + 16 ≤ len) (l : k < 16) where
   pub byte-there : o + k < len
   byte-there = omega arith
@@ -161,8 +163,7 @@ module _ (len o k : ℕ) (h : o + 16 ≤ len) (l : k < 16) where
   byte-fits s = omega arith
 
 -- The fields, as they are read.
-pub fields-are : (file : List ℕ) (o ow lw a b c d e f : ℕ) → o + 18 + ow + lw ≤ length file → fieldSize ow ≡ true → fieldSize lw ≡ true → a ≡ num file (o + 6) 4
-    → b ≡ num file (o + 10) 2 → c ≡ num file (o + 12) 2 → d ≡ num file (o + 16) (min ow 8)
+pub fields-are : (file : List ℕ) (o ow lw a b c d e f : ℕ) → FieldsThere file o ow lw → a ≡ num file (o + 6) 4 → b ≡ num file (o + 10) 2 → c ≡ num file (o + 12) 2 → d ≡ num file (o + 16) (min ow 8)
     → e ≡ num file (o + 16 + ow) 2 → f ≡ num file (o + 18 + ow) (min lw 8)
     → _≡_ {A = BTreeV2Header}
     (record {
@@ -175,7 +176,7 @@ pub fields-are : (file : List ℕ) (o ow lw a b c d e f : ℕ) → o + 18 + ow +
     })
     (headerAt file o ow lw)
 unfolding headerAt
-fields-are file o ow lw a b c d e f h s l ha hb hc hd he hf =
-    let m : min ow 8 ≡ ow = omega (arith, field-size-le ow s) in
-    let n : min lw 8 ≡ lw = omega (arith, field-size-le lw l) in
-    rw (num-1 file (o + 5) (omega arith), ha, hb, hc, hd, he, hf, m, n)
+fields-are file o ow lw a b c d e f h ha hb hc hd he hf =
+    let m : min ow 8 ≡ ow = omega (arith, field-size-le ow (h .offsets)) in
+    let n : min lw 8 ≡ lw = omega (arith, field-size-le lw (h .lengths)) in
+    rw (num-1 file (o + 5) (omega (arith, h .there)), ha, hb, hc, hd, he, hf, m, n)

@@ -1,13 +1,12 @@
 // The header reader.
 
 ghost use mathlib.Core.Path.{_≡_};
-ghost use mathlib.Core.Bool.{true};
 ghost use Prim.Native.Nat.{_+_, _≤_};
 ghost use lib.ListN.{length};
-ghost use Rattle.numbers.specs.Numbers.{num, fieldSize};
+ghost use Rattle.numbers.specs.Numbers.{num};
 ghost use Rattle.btree_v2_header.specs.Header.{headerAt};
 ghost use Rattle.btree_v2_header.specs.Answers.{Parses};
-ghost use Rattle.btree_v2_header.specs.Parsing.{Begun};
+ghost use Rattle.btree_v2_header.specs.Parsing.{Begun, FieldsThere};
 use node_info::Geometry;
 use refusal::Refusal;
 use refusal::Verdict;
@@ -87,7 +86,7 @@ fn parse_sized(file: &[u8], offset: u64, offset_size: u8, length_size: u8) -> He
 
 // The fields of the header at `at`.
 fn fields_at(file: &[u8], at: usize, offset_size: u8, length_size: u8) -> BTreeV2Header
-    requires { ⌜ (at + 18 + «offset_size» + «length_size» ≤ length (now file)) × (fieldSize «offset_size» ≡ true) × (fieldSize «length_size» ≡ true) ⌝ }
+    requires { ⌜ FieldsThere (now file) at «offset_size» «length_size» ⌝ }
     ensures { λ r. ⌜ r ≡ headerAt (now (file .entry)) at «offset_size» «length_size» ⌝ }
 {
     let root_width = offset_size as usize;
