@@ -5,9 +5,9 @@ use Prim.Native.Nat.{ℕ, _+_}
 use native.Mathlib.Omega.{arith}
 use Rattle.refusal.specs.Answer.{Answer, accepted, refused}
 use Rattle.btree_v2_collect.specs.Walk.{Counts, Run, fine, stopped, andThen, ifPassed, noCounts, oneRecord, oneLeaf, oneInternal, oneInternalRecord, Tests, putRecord, putRecords, leafRun, ownRecordRun, nodeRun}
-use Rattle.btree_v2_internal.specs.Internal.{Source}
-use Rattle.btree_v2_header.specs.Header.{Header}
-use Rattle.btree_v2_collect.specs.Collect.{collectTests, sourceOf, collected}
+use Rattle.node_info.specs.declared.Geometry.{Geometry}
+use Rattle.btree_v2_header.specs.declared.BTreeV2Header.{BTreeV2Header}
+use Rattle.btree_v2_collect.specs.Collect.{collectTests, collected}
 use Rattle.btree_v2_collect.proofs.Outcomes.{put-cases, collected-fine}
 use Rattle.btree_v2_collect.proofs.Walking.{Step, records-walked, node-walked}
 
@@ -39,20 +39,20 @@ counted c c1 h e = record { balance = λ c2 o2 f. omega (arith, h .balance c2 o2
 abbrev Balances : ℕ → ℕ → Step → Type 0
 Balances x y f = (c : Counts) (o : List ℕ) → Balanced x y c (f c o)
 
-module _ (s : Source) where
-  put-balanced : (p : ℕ) → Balances 0 0 (putRecord s p)
-  put-balanced p c o = put-cases s p c o (Balanced 0 0 c) (λ h. goes c (oneRecord c) (omega arith)) stops
+module _ (file : List ℕ) (g : Geometry) where
+  put-balanced : (p : ℕ) → Balances 0 0 (putRecord file g p)
+  put-balanced p c o = put-cases file g p c o (Balanced 0 0 c) (λ h. goes c (oneRecord c) (omega arith)) stops
 
-  puts-balanced : (n p : ℕ) → Balances 0 0 (putRecords s n p)
+  puts-balanced : (n p : ℕ) → Balances 0 0 (putRecords file g n p)
   puts-balanced =
-      records-walked s {P = λ n p. Balances 0 0}
+      records-walked file g {P = λ n p. Balances 0 0}
       (record { none = λ c o. goes c c (omega arith); more = λ h c o. both (put-balanced _ c o) h })
 
   -- A node counts one leaf more, a record between one record from an internal node.
-  node-balanced : (tests : Tests) (d a n : ℕ) → Balances 1 0 (nodeRun s tests d a n)
+  node-balanced : (tests : Tests) (d a n : ℕ) → Balances 1 0 (nodeRun file g tests d a n)
   unfolding leafRun ownRecordRun
   node-balanced tests =
-      node-walked s tests {N = λ d a n. Balances 1 0} {C = λ d a n m i. Balances 1 0} {R = λ d a n i. Balances 0 1}
+      node-walked file g tests {N = λ d a n. Balances 1 0} {C = λ d a n m i. Balances 1 0} {R = λ d a n i. Balances 0 1}
       (record {
         leaf = λ a n c o. if-balanced (tests .leaf a n) c o (counted c (oneLeaf c) (puts-balanced n (a + 6) (oneLeaf c) o) (omega arith));
         internal = λ d a n h c o. if-balanced (tests .internal d a n) c o (counted c (oneInternal c) (h (oneInternal c) o) (omega arith));
@@ -62,8 +62,8 @@ module _ (s : Source) where
       })
 
 -- Collecting that reads a root.
-pub one-leaf-more : (file : List ℕ) (h : Header) (ow : ℕ) (out : List ℕ) (c : Counts) (o : List ℕ)
-    → (h .records ≡ 0 → ⊥) → (h .rootRecords ≡ 0 → ⊥) → collected file h ow out ≡ fine c o → c .leaves ≡ c .internalRecords + 1
-one-leaf-more file h ow out c o some root e =
-    let run = node-balanced (sourceOf file h ow) (collectTests (sourceOf file h ow)) (h .depth) (h .root) (h .rootRecords) noCounts out in
-    omega (arith, run .balance c o (collected-fine file h ow out some root c o e))
+pub one-leaf-more : (file : List ℕ) (h : BTreeV2Header) (out : List ℕ) (c : Counts) (o : List ℕ)
+    → (h .«total_records» ≡ 0 → ⊥) → (h .«num_records_in_root» ≡ 0 → ⊥) → collected file h out ≡ fine c o → c .leaves ≡ c .internalRecords + 1
+one-leaf-more file h out c o some root e =
+    let run = node-balanced file (h .geometry) (collectTests file (h .geometry)) (h .depth) (h .«root_node_address») (h .«num_records_in_root») noCounts out in
+    omega (arith, run .balance c o (collected-fine file h out some root c o e))

@@ -14,18 +14,16 @@ use Rattle.refusal.proofs.Answers.{refused-is}
 use Rattle.node_info.specs.declared.NodeInfo.{NodeInfo}
 use Rattle.node_info.specs.Table.{infoAt, noInfo}
 use Rattle.node_info.proofs.Columns.{total-entry}
-use Rattle.btree_v2_collect.specs.Walk.{Run, fine, stopped, noCounts}
-use Rattle.btree_v2_collect.specs.Collect.{collected, sourceOf, countCells, runCells, runOutput}
+use Rattle.btree_v2_collect.specs.Walk.{Run, fine, stopped, noCounts, nodeRun}
+use Rattle.btree_v2_collect.specs.Collect.{collected, collectTests, countCells, runCells, runOutput}
 use Rattle.btree_v2_collect.proofs.Outcomes.{collected-none, collected-root-none, collected-8, collected-16, collected-walk}
-use Rattle.btree_v2_header.specs.Header.{Header}
 use Rattle.btree_v2_header.specs.declared.BTreeV2Header.{BTreeV2Header}
 use Rattle.refusal.specs.declared.Verdict.{Verdict}
 use Rattle.refusal.specs.declared.Verdict.the-variants.{Accepted, Refused}
 use Rattle.btree_v2_collect.specs.declared.Tally.{Tally}
-use Rattle.btree_v2_collect.specs.declared.collect.TreeSizes.{TreeSizes}
-use Rattle.btree_v2_header.specs.Answers.{fieldsOf}
+use Rattle.btree_v2_internal.specs.declared.Sizes.{Sizes}
 use Rattle.btree_v2_collect.specs.Answers.{Ends}
-use Rattle.btree_v2_collect.specs.Collecting.{countsOf, tallyOf, runOf, saturatedRun, sourceAt, testsAt, Readable, RootRead, Walked, nodeWalk}
+use Rattle.btree_v2_collect.specs.Collecting.{countsOf, tallyOf, runOf, saturatedRun, Readable, RootRead, Walked}
 use Rattle.btree_v2_collect.proofs.Holding.{saturated-saturated}
 
 -- Held counts or exact ones: the same cells and output.
@@ -55,7 +53,7 @@ pub record Small (r : Tally) : Type 0 where
   pub internals : r .internals < 2 ^ 64
   pub internalRecords : r .«internal_records» < 2 ^ 64
 
-walked-ends : (z : TreeSizes) (x : Run) (v : Verdict) (t o : List ℕ) → Walked z x v t o → (r : Tally) → r ≡ tallyOf t → Small r
+walked-ends : (z : Sizes) (x : Run) (v : Verdict) (t o : List ℕ) → Walked z x v t o → (r : Tally) → r ≡ tallyOf t → Small r
     → Ends x (record { verdict = v; tally = r }) o
 walked-ends z x v t o walked r e small =
     let count = cells-of v t o in
@@ -71,38 +69,36 @@ abbrev nothing : Tally
 nothing = record { records = 0; leaves = 0; internals = 0; «internal_records» = 0 }
 
 -- The tests that need no file, by the header's fields.
-module _ (file : List ℕ) (h : Header) (ow : ℕ) (o : List ℕ) where
-  pub no-records : h .records ≡ 0 → Ends (collected file h ow o) (record { verdict = Accepted; tally = nothing }) o
+module _ (file : List ℕ) (h : BTreeV2Header) (o : List ℕ) where
+  pub no-records : h .«total_records» ≡ 0 → Ends (collected file h o) (record { verdict = Accepted; tally = nothing }) o
   unfolding runCells
-  no-records e = rw (collected-none file h ow o e) (refl, refl)
+  no-records e = rw (collected-none file h o e) (refl, refl)
 
-  pub no-root-records : h .rootRecords ≡ 0 → Ends (collected file h ow o) (record { verdict = Accepted; tally = nothing }) o
+  pub no-root-records : h .«num_records_in_root» ≡ 0 → Ends (collected file h o) (record { verdict = Accepted; tally = nothing }) o
   unfolding runCells
-  no-root-records e = rw (collected-root-none file h ow o e) (refl, refl)
+  no-root-records e = rw (collected-root-none file h o e) (refl, refl)
 
-  module _ (some : h .records ≡ 0 → ⊥) (root : h .rootRecords ≡ 0 → ⊥) where
-    pub no-record-size : h .rs ≡ 0 → Ends (collected file h ow o) (record { verdict = Refused ZeroRecordSize; tally = nothing }) o
+  module _ (some : h .«total_records» ≡ 0 → ⊥) (root : h .«num_records_in_root» ≡ 0 → ⊥) where
+    pub no-record-size : h .geometry .«record_size» ≡ 0 → Ends (collected file h o) (record { verdict = Refused ZeroRecordSize; tally = nothing }) o
     unfolding runCells
-    no-record-size e = rw (collected-8 file h ow o some root e) (refl, refl)
+    no-record-size e = rw (collected-8 file h o some root e) (refl, refl)
 
-    pub too-deep : (h .rs ≡ 0 → ⊥) → 32 < h .depth
-        → Ends (collected file h ow o) (record { verdict = Refused (DepthAboveLimit (h .depth)); tally = nothing }) o
+    pub too-deep : (h .geometry .«record_size» ≡ 0 → ⊥) → 32 < h .depth
+        → Ends (collected file h o) (record { verdict = Refused (DepthAboveLimit (h .depth)); tally = nothing }) o
     unfolding runCells
-    too-deep sized e = rw (collected-16 file h ow o some root sized e) (refl, refl)
+    too-deep sized e = rw (collected-16 file h o some root sized e) (refl, refl)
 
 -- Before the first record.
 pub none-within : (size room : ℕ) → 0 * size ≤ room
 none-within size room = rw zero-mul zero-le
 
 -- The sizes that the table gives, and the walk by them from the root on.
-module _ {h : BTreeV2Header} (read : RootRead h) (ow : ℕ) (info : NodeInfo)
-    (table : info ≡ pick (leb (h .depth) 32) (infoAt (h .«node_size») (h .«record_size») ow (h .depth)) noInfo) where
-  abbrev sizes : TreeSizes
-  sizes =
-      record
-      { «node_size» = h .«node_size»; «record_size» = h .«record_size»; «offset_size» = ow; «count_size» = info .«max_nrec_size» }
+module _ {h : BTreeV2Header} (read : RootRead h) (info : NodeInfo)
+    (table : info ≡ pick (leb (h .depth) 32) (infoAt (h .geometry) (h .depth)) noInfo) where
+  abbrev sizes : Sizes
+  sizes = record { geometry = h .geometry; «count_size» = info .«max_nrec_size» }
 
-  table-is : info ≡ infoAt (h .«node_size») (h .«record_size») ow (h .depth)
+  table-is : info ≡ infoAt (h .geometry) (h .depth)
   table-is = rw (le-leb (h .depth) 32 (read .deep)) at table
 
   pub root-readable : Readable sizes (info .«cum_max_nrec_size») (h .depth)
@@ -112,14 +108,14 @@ module _ {h : BTreeV2Header} (read : RootRead h) (ow : ℕ) (info : NodeInfo)
         some = omega (arith, read .sized);
         deep = read .deep;
         counts = rw table-is;
-        totals = λ u k. total-entry (h .«node_size») (h .«record_size») ow (h .depth) info table-is u k (read .deep);
+        totals = λ u k. total-entry (h .geometry) (h .depth) info table-is u k (read .deep);
       }
 
   -- A node at address a with n records is the root.
-  pub root-walked : (file o : List ℕ) (a n : ℕ) (v : Verdict) (t o1 : List ℕ) → Walked sizes (nodeWalk file sizes (testsAt file sizes) (h .depth) a n noCounts o) v t o1
+  pub root-walked : (file o : List ℕ) (a n : ℕ) (v : Verdict) (t o1 : List ℕ)
+      → Walked sizes (nodeRun file (h .geometry) (collectTests file (h .geometry)) (h .depth) a n noCounts o) v t o1
       → a ≡ h .«root_node_address» → n ≡ h .«num_records_in_root» → (r : Tally) → r ≡ tallyOf t → Small r
-      → Ends (collected file (fieldsOf h) ow o) (record { verdict = v; tally = r }) o1
-  unfolding nodeWalk sourceAt sourceOf
+      → Ends (collected file h o) (record { verdict = v; tally = r }) o1
   root-walked file o a n v t o1 walked address records r e small =
-      rw (collected-walk file (fieldsOf h) ow o (read .some) (read .root) (read .sized) (read .deep))
+      rw (collected-walk file h o (read .some) (read .root) (read .sized) (read .deep))
       (walked-ends sizes _ v t o1 (rw (address, records) at walked) r e small)

@@ -13,9 +13,9 @@ use Rattle.numbers.specs.Places.{stored}
 use Rattle.numbers.proofs.Lists.{length-stored, take-stored, drop-stored-end}
 use Rattle.refusal.specs.Answer.{Answer, accepted, refused, orElse}
 use Rattle.btree_v2_collect.specs.Walk.{Counts, Run, fine, stopped, andThen, ifPassed, noCounts, oneLeaf, oneInternal, oneInternalRecord, Tests, putRecord, putRecords, leafRun, ownRecordRun, nodeRun}
-use Rattle.btree_v2_internal.specs.Internal.{Source}
-use Rattle.btree_v2_header.specs.Header.{Header}
-use Rattle.btree_v2_collect.specs.Collect.{collected, sourceOf, runOutput}
+use Rattle.node_info.specs.declared.Geometry.{Geometry}
+use Rattle.btree_v2_header.specs.declared.BTreeV2Header.{BTreeV2Header}
+use Rattle.btree_v2_collect.specs.Collect.{collected, runOutput}
 use Rattle.btree_v2_collect.proofs.Outcomes.{put-cases}
 use Rattle.btree_v2_collect.proofs.Walking.{Step, records-walked, node-walked}
 
@@ -85,53 +85,53 @@ module _ (rs : ℕ) where
   if-passed (accepted figures) c h = h
   if-passed (refused number values) c {o} h = stays c o
 
-module _ (s : Source) where
+module _ (file : List ℕ) (g : Geometry) where
   abbrev Front : Step → Type 0
-  Front f = (c : Counts) (o : List ℕ) → Fronted (s .rs) (c .records) o (f c o)
+  Front f = (c : Counts) (o : List ℕ) → Fronted (g .«record_size») (c .records) o (f c o)
 
-  put-front : (p : ℕ) → Front (putRecord s p)
+  put-front : (p : ℕ) → Front (putRecord file g p)
   put-front p c o =
-      put-cases s p c o (Fronted (s .rs) (c .records) o)
+      put-cases file g p c o (Fronted (g .«record_size») (c .records) o)
       (λ h.
-      let whole : length (part (s .file) p (s .rs)) ≤ s .rs = simp length-take (omega arith) in
+      let whole : length (part file p (g .«record_size»)) ≤ g .«record_size» = simp length-take (omega arith) in
       record {
         more = omega arith;
         room = λ l. h;
-        kept = kept-stored (c .records * s .rs) ((c .records + 1) * s .rs) o _ (omega arith) h;
+        kept = kept-stored (c .records * g .«record_size») ((c .records + 1) * g .«record_size») o _ (omega arith) h;
       })
-      (stays (s .rs) c o)
+      (stays (g .«record_size») c o)
 
-  puts-front : (n p : ℕ) → Front (putRecords s n p)
+  puts-front : (n p : ℕ) → Front (putRecords file g n p)
   puts-front =
-      records-walked s {P = λ n p. Front}
-      (record { none = front-fine (s .rs); more = λ h c o. and-then (s .rs) (put-front _ c o) h })
+      records-walked file g {P = λ n p. Front}
+      (record { none = front-fine (g .«record_size»); more = λ h c o. and-then (g .«record_size») (put-front _ c o) h })
 
   -- Of every source, tests and output.
-  pub node-fronted : (tests : Tests) (d a n : ℕ) (c : Counts) (o : List ℕ) → Fronted (s .rs) (c .records) o (nodeRun s tests d a n c o)
+  pub node-fronted : (tests : Tests) (d a n : ℕ) (c : Counts) (o : List ℕ) → Fronted (g .«record_size») (c .records) o (nodeRun file g tests d a n c o)
   unfolding leafRun ownRecordRun
   node-fronted tests =
-      node-walked s tests {N = λ d a n. Front} {C = λ d a n m i. Front} {R = λ d a n i. Front}
+      node-walked file g tests {N = λ d a n. Front} {C = λ d a n m i. Front} {R = λ d a n i. Front}
       (record {
-        leaf = λ a n c o. if-passed (s .rs) (tests .leaf a n) c (puts-front n (a + 6) (oneLeaf c) o);
-        internal = λ d a n h c o. if-passed (s .rs) (tests .internal d a n) c (h (oneInternal c) o);
-        child = λ d a n i h c o. and-then (s .rs) (h c o) (λ c1 o1. if-passed (s .rs) (tests .child d _ _) c1 (front-fine (s .rs) c1 o1));
-        ownRecord = λ d a n i c o. and-then (s .rs) (put-front _ c o) (λ c1. front-fine (s .rs) (oneInternalRecord c1));
-        more = λ f g h c o. and-then (s .rs) (f c o) (λ c1 o1. and-then (s .rs) (g c1 o1) h);
+        leaf = λ a n c o. if-passed (g .«record_size») (tests .leaf a n) c (puts-front n (a + 6) (oneLeaf c) o);
+        internal = λ d a n h c o. if-passed (g .«record_size») (tests .internal d a n) c (h (oneInternal c) o);
+        child = λ d a n i h c o. and-then (g .«record_size») (h c o) (λ c1 o1. if-passed (g .«record_size») (tests .child d _ _) c1 (front-fine (g .«record_size») c1 o1));
+        ownRecord = λ d a n i c o. and-then (g .«record_size») (put-front _ c o) (λ c1. front-fine (g .«record_size») (oneInternalRecord c1));
+        more = λ f k h c o. and-then (g .«record_size») (f c o) (λ c1 o1. and-then (g .«record_size») (k c1 o1) h);
       })
 
 -- Collecting, from no record on.
-pub collected-fronted : (file : List ℕ) (h : Header) (ow : ℕ) (out : List ℕ) → Fronted (h .rs) 0 out (collected file h ow out)
-unfolding collected sourceOf
-collected-fronted file h ow out =
-    or-else (not (eqb (h .records) 0 || eqb (h .rootRecords) 0)) (front-fine (h .rs) noCounts out)
-    (or-else (ltb 0 (h .rs)) (stays (h .rs) noCounts out)
-    (or-else (leb (h .depth) 32) (stays (h .rs) noCounts out) (node-fronted (sourceOf file h ow) _ (h .depth) _ _ noCounts out)))
+pub collected-fronted : (file : List ℕ) (h : BTreeV2Header) (out : List ℕ) → Fronted (h .geometry .«record_size») 0 out (collected file h out)
+unfolding collected
+collected-fronted file h out =
+    or-else (not (eqb (h .«total_records») 0 || eqb (h .«num_records_in_root») 0)) (front-fine (h .geometry .«record_size») noCounts out)
+    (or-else (ltb 0 (h .geometry .«record_size»)) (stays (h .geometry .«record_size») noCounts out)
+    (or-else (leb (h .depth) 32) (stays (h .geometry .«record_size») noCounts out) (node-fronted file (h .geometry) _ (h .depth) _ _ noCounts out)))
   where
-    or-else : (t : Bool) {x y : Run} → Fronted (h .rs) 0 out x → Fronted (h .rs) 0 out y → Fronted (h .rs) 0 out (orElse t x y)
+    or-else : (t : Bool) {x y : Run} → Fronted (h .geometry .«record_size») 0 out x → Fronted (h .geometry .«record_size») 0 out y → Fronted (h .geometry .«record_size») 0 out (orElse t x y)
     or-else true f g = g
     or-else false f g = f
 
 -- So the records that were put out are within the output.
-pub collected-within : (file : List ℕ) (h : Header) (ow : ℕ) (out : List ℕ)
-    → runCounts (collected file h ow out) .records * h .rs ≤ length out
-collected-within file h ow out = collected-fronted file h ow out .room (rw zero-mul zero-le)
+pub collected-within : (file : List ℕ) (h : BTreeV2Header) (out : List ℕ)
+    → runCounts (collected file h out) .records * h .geometry .«record_size» ≤ length out
+collected-within file h out = collected-fronted file h out .room (rw zero-mul zero-le)

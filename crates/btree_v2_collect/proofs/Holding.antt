@@ -11,7 +11,7 @@ use Rattle.numbers.specs.Places.{stored}
 use Rattle.numbers.proofs.Numbers.{saturated-add}
 use Rattle.refusal.specs.Answer.{Answer, accepted, refused, orElse}
 use Rattle.btree_v2_collect.specs.Walk.{Counts, Run, fine, stopped, andThen, ifPassed, oneRecord, oneLeaf, oneInternal, oneInternalRecord, Tests, putRecord, putRecords, leafRun, ownRecordRun, childrenRun, nodeRun}
-use Rattle.btree_v2_internal.specs.Internal.{Source}
+use Rattle.node_info.specs.declared.Geometry.{Geometry}
 use Rattle.btree_v2_collect.specs.Collecting.{saturatedCounts, saturatedRun}
 use Rattle.btree_v2_collect.proofs.Walking.{Step, andStep, Walking, records-walked, children-walked}
 
@@ -69,34 +69,35 @@ count-alike = alike-count fine-alike oneInternalRecord (λ c. simp (saturated-sa
 pub after-alike : (tests : Tests) (d p k : ℕ) → Alike (λ c o. ifPassed (tests .child d p (c .records - k)) c o (fine c o))
 after-alike tests d p k = record { same = λ c o. alike-if fine-alike (tests .child d p (c .records - k)) .same c o }
 
-module _ (s : Source) where
+module _ (file : List ℕ) (g : Geometry) where
   put-by : (t : Bool) (p : ℕ)
-      → Alike (λ c o. orElse t (stopped 15 (length o ∷ []) c o) (fine (oneRecord c) (stored o (c .records * s .rs) (part (s .file) p (s .rs)))))
+      → Alike (λ c o. orElse t (stopped 15 (length o ∷ []) c o) (fine (oneRecord c) (stored o (c .records * g .«record_size») (part file p (g .«record_size»)))))
   put-by true p = record { same = λ c o. simp saturated-saturated }
   put-by false p = record { same = λ c o. simp saturated-saturated }
 
-  put-alike : (p : ℕ) → Alike (putRecord s p)
+  put-alike : (p : ℕ) → Alike (putRecord file g p)
   unfolding putRecord
-  put-alike p = record { same = λ c o. put-by (leb ((c .records + 1) * s .rs) (length o)) p .same c o }
+  put-alike p = record { same = λ c o. put-by (leb ((c .records + 1) * g .«record_size») (length o)) p .same c o }
 
-  pub puts-alike : (n p : ℕ) → Alike (putRecords s n p)
+  pub puts-alike : (n p : ℕ) → Alike (putRecords file g n p)
   puts-alike =
-      records-walked s {P = λ n p. Alike} (record { none = fine-alike; more = λ h. alike-then (put-alike _) h })
+      records-walked file g {P = λ n p. Alike} (record { none = fine-alike; more = λ h. alike-then (put-alike _) h })
+
+  pub own-record-alike : (a i : ℕ) → Alike (ownRecordRun file g a i)
+  unfolding ownRecordRun
+  own-record-alike a i = alike-then (put-alike _) count-alike
 
   module _ (tests : Tests) where
-    alike : Walking s tests (λ d a n. Alike) (λ d a n m i. Alike) (λ d a n i. Alike)
-    unfolding leafRun ownRecordRun
+    alike : Walking file g tests (λ d a n. Alike) (λ d a n m i. Alike) (λ d a n i. Alike)
+    unfolding leafRun
     alike =
         record {
           leaf = λ a n. alike-if (alike-count (puts-alike n (a + 6)) oneLeaf (λ c. simp (saturated-saturated, saturated-add))) (tests .leaf a n);
           internal = λ d a n h. alike-if (alike-count h oneInternal (λ c. simp (saturated-saturated, saturated-add))) (tests .internal d a n);
           child = λ d a n i h. alike-with h (after-alike tests d _);
-          ownRecord = λ d a n i. alike-then (put-alike _) count-alike;
+          ownRecord = λ d a n i. own-record-alike a i;
           more = λ f g h. alike-then f (alike-then g h);
         }
 
-    pub own-record-alike : (d a n i : ℕ) → Alike (ownRecordRun s tests d a n (nodeRun s tests d) i)
-    own-record-alike = alike .ownRecord
-
-    pub children-alike : (d a n m i : ℕ) → Alike (childrenRun s tests d a n (nodeRun s tests d) m i)
-    children-alike = children-walked s tests alike
+    pub children-alike : (d a n m i : ℕ) → Alike (childrenRun file g tests d a n (nodeRun file g tests d) m i)
+    children-alike = children-walked file g tests alike

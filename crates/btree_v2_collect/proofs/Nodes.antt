@@ -12,76 +12,73 @@ use Rattle.numbers.specs.Numbers.{fieldSize}
 use Rattle.numbers.proofs.Numbers.{field-size-le}
 use Rattle.refusal.specs.Answer.{accepted, verdictOf}
 use Rattle.node_info.proofs.Capacities.{count-width-le}
-use Rattle.btree_v2_internal.specs.Internal.{pointerWidth, pointerPlace, childAddress, childRecords, internalTest}
+use Rattle.node_info.specs.Capacity.{childPointerSize, countWidth, totalWidth}
+use Rattle.btree_v2_internal.specs.Internal.{pointerPlace, childAddress, childRecords, internalTest}
 use Rattle.refusal.specs.declared.Verdict.{Verdict}
 use Rattle.refusal.specs.declared.Verdict.the-variants.{Accepted}
 use Rattle.btree_v2_leaf.specs.Leaf.{leafTest}
 use Rattle.btree_v2_collect.specs.Collect.{collectTests}
 use Rattle.btree_v2_internal.specs.declared.Sizes.{Sizes}
 use Rattle.btree_v2_internal.specs.declared.Node.{Node}
-use Rattle.btree_v2_internal.specs.Pointers.{sourceBy, pointerAt, addressAt, recordsAt}
+use Rattle.btree_v2_internal.specs.Pointers.{pointerAt, addressAt, recordsAt}
 use Rattle.btree_v2_internal.proofs.Nodes.{internal-there, fields-walked}
-use Rattle.btree_v2_collect.specs.declared.collect.TreeSizes.{TreeSizes}
-use Rattle.btree_v2_collect.specs.Collecting.{sourceAt, testsAt, sizesAbove, Readable, NodeThere, ChildAt}
-
--- `sizes_above`: the table has the size of the totals.
-pub sizes-are : (z : TreeSizes) (l : List ℕ) (d : ℕ) → Readable z l d
-    → record { «record_size» = z .«record_size»; «offset_size» = z .«offset_size»; «count_size» = z .«count_size»; «total_size» = getD l d 0 }
-    ≡ sizesAbove z d
-unfolding sizesAbove
-sizes-are z l d readable = rw (readable .counts, readable .totals d (le-refl d))
+use Rattle.btree_v2_collect.specs.Collecting.{Readable, NodeThere, ChildAt}
+use Rattle.btree_v2_collect.specs.Walk.{recordPlace}
 
 -- Collecting's tests: the code's verdicts are theirs; and nothing is tested after a child.
-module _ (file : List ℕ) (z : TreeSizes) where
-  pub leaf-tested : (a n : ℕ) (v : Verdict) → verdictOf v ≡ leafTest file (z .«record_size») a n → verdictOf v ≡ testsAt file z .leaf a n
-  unfolding collectTests sourceAt
+module _ (file : List ℕ) (z : Sizes) where
+  pub leaf-tested : (a n : ℕ) (v : Verdict) → verdictOf v ≡ leafTest file (z .geometry .«record_size») a n
+      → verdictOf v ≡ collectTests file (z .geometry) .leaf a n
+  unfolding collectTests
   leaf-tested a n v code = code
 
-  pub node-tested : (x : Node) (d : ℕ) (v : Verdict) (p : Sizes) → p ≡ sizesAbove z d
-      → verdictOf v ≡ internalTest (sourceBy file p) 0 (x .address) (x .records)
-      → verdictOf v ≡ testsAt file z .internal d (x .address) (x .records)
-  unfolding collectTests internalTest pointerWidth sourceBy sourceAt sizesAbove
-  node-tested x d v p e code = rw e at code
+  pub node-tested : (l : List ℕ) (d : ℕ) → Readable z l d → (x : Node) (v : Verdict)
+      → verdictOf v
+      ≡ internalTest file (z .geometry .«record_size») (z .geometry .«offset_size») (childPointerSize (z .geometry) (z .«count_size») (getD l d 0)) (x .address) (x .records)
+      → verdictOf v ≡ collectTests file (z .geometry) .internal d (x .address) (x .records)
+  unfolding collectTests
+  node-tested l d readable x v code = rw (readable .counts, readable .totals d (le-refl d)) at code
 
-  pub none-after : (d p m : ℕ) → accepted [] ≡ testsAt file z .child d p m
+  pub none-after : (d p m : ℕ) → accepted [] ≡ collectTests file (z .geometry) .child d p m
   unfolding collectTests
   none-after d p m = refl
 
   -- An internal node that passes has its records, and offsets have one of the sizes.
-  pub node-there : (d a n : ℕ) (v : Verdict) → verdictOf v ≡ testsAt file z .internal d a n → v ≡ Accepted → NodeThere (sourceAt file z) a n
+  pub node-there : (d a n : ℕ) (v : Verdict) → verdictOf v ≡ collectTests file (z .geometry) .internal d a n → v ≡ Accepted
+      → NodeThere file (z .geometry) a n
   unfolding collectTests
   node-there d a n v code e =
-      let h = internal-there (sourceAt file z) d a n (sym code ∙ ap verdictOf e) in
+      let h = internal-there file _ _ _ a n (sym code ∙ ap verdictOf e) in
       record { records = omega (arith, h .0, h .1); offset = h .2 }
 
 -- An internal node that is read on.
-module _ (file : List ℕ) (z : TreeSizes) (x : Node) (there : NodeThere (sourceAt file z) (x .address) (x .records)) where
-  offset-there : fieldSize (z .«offset_size») ≡ true
-  unfolding sourceAt
-  offset-there = there .offset
-
-  pub child-there : (d : ℕ) (p : Sizes) (i : ℕ) (b : Node) → p ≡ sizesAbove z d
-      → (b .address ≡ addressAt file p x i) × (b .records ≡ recordsAt file p x i)
-      → ChildAt (sourceAt file z) d (x .address) (x .records) i b
-  unfolding childAddress childRecords pointerAt pointerPlace pointerWidth sourceBy sourceAt sizesAbove
-  child-there d p i b e code =
-      let walked = fields-walked file (sizesAbove z d) x i (field-size-le _ offset-there) (count-width-le _ _) in
-      record { address = rw e at (code .0) ∙ walked .0; records = rw e at (code .1) ∙ walked .1 }
+module _ (file : List ℕ) (z : Sizes) (x : Node) (there : NodeThere file (z .geometry) (x .address) (x .records)) where
+  pub child-there : (l : List ℕ) (d : ℕ) → Readable z l d → (i : ℕ) (b : Node)
+      → (b .address ≡ addressAt file z (getD l d 0) x i) × (b .records ≡ recordsAt file z (getD l d 0) x i)
+      → ChildAt file (z .geometry) d (x .address) (x .records) i b
+  unfolding pointerAt
+  child-there l d readable i b code =
+      let narrow : z .«count_size» ≤ 8 = rw (readable .counts) (count-width-le _) in
+      let walked = fields-walked file z (getD l d 0) x i (field-size-le _ (there .offset)) narrow in
+      let total = readable .totals d (le-refl d) in
+      record {
+        address = rw (readable .counts, total) at (code .0 ∙ walked .0);
+        records = rw (readable .counts, total) at (code .1 ∙ walked .1);
+      }
 
   -- Record i.
   module _ (i : ℕ) (h : i < x .records) where
-    pub record-there : x .address + 6 + i * z .«record_size» + 1 * z .«record_size» ≤ length file
-    unfolding sourceAt
+    pub record-there : recordPlace (z .geometry) (x .address) i + 1 * z .geometry .«record_size» ≤ length file
     record-there =
         let j : i + 1 ≤ x .records = omega arith in
-        omega (arith, there .records, mul-le-mul-right (z .«record_size») j)
+        omega (arith, there .records, mul-le-mul-right (z .geometry .«record_size») j)
 
     module _ (l : length file < 2 ^ 64) where
       pub begin-fits : Fits w64 (x .address + 6)
       begin-fits = omega (arith, record-there)
 
-      pub record-offset : Fits w64 (i * z .«record_size»)
+      pub record-offset : Fits w64 (i * z .geometry .«record_size»)
       record-offset = omega (arith, record-there)
 
-      pub record-place : Fits w64 (x .address + 6 + i * z .«record_size»)
+      pub record-place : Fits w64 (recordPlace (z .geometry) (x .address) i)
       record-place = omega (arith, record-there)

@@ -12,31 +12,31 @@ use Rattle.numbers.specs.Numbers.{part}
 use Rattle.numbers.specs.Places.{stored}
 use Rattle.refusal.specs.Answer.{orElse}
 use Rattle.btree_v2_collect.specs.Walk.{Counts, Run, fine, stopped, andThen, noCounts, oneRecord, putRecord, putRecords, nodeRun}
-use Rattle.btree_v2_internal.specs.Internal.{Source}
-use Rattle.btree_v2_header.specs.Header.{Header}
-use Rattle.btree_v2_collect.specs.Collect.{collectTests, sourceOf, collected}
+use Rattle.node_info.specs.declared.Geometry.{Geometry}
+use Rattle.btree_v2_header.specs.declared.BTreeV2Header.{BTreeV2Header}
+use Rattle.btree_v2_collect.specs.Collect.{collectTests, collected}
 
 -- A record where there is room, and where there is none; n records, split anywhere; those that fit, and 15.
-module _ (s : Source) where
+module _ (file : List ℕ) (g : Geometry) where
   module _ (p : ℕ) (c : Counts) (o : List ℕ) where
-    pub put-fits : (c .records + 1) * s .rs ≤ length o
-        → putRecord s p c o ≡ fine (oneRecord c) (stored o (c .records * s .rs) (part (s .file) p (s .rs)))
+    pub put-fits : (c .records + 1) * g .«record_size» ≤ length o
+        → putRecord file g p c o ≡ fine (oneRecord c) (stored o (c .records * g .«record_size») (part file p (g .«record_size»)))
     unfolding putRecord
     put-fits h = rw (le-leb _ _ h)
 
-    pub put-short : length o < (c .records + 1) * s .rs → putRecord s p c o ≡ stopped 15 (length o ∷ []) c o
+    pub put-short : length o < (c .records + 1) * g .«record_size» → putRecord file g p c o ≡ stopped 15 (length o ∷ []) c o
     unfolding putRecord
     put-short h = rw (lt-leb _ _ h)
 
     -- One of the two.
     pub put-cases : (P : Run → Type 0)
-        → ((c .records + 1) * s .rs ≤ length o → P (fine (oneRecord c) (stored o (c .records * s .rs) (part (s .file) p (s .rs)))))
-        → P (stopped 15 (length o ∷ []) c o) → P (putRecord s p c o)
+        → ((c .records + 1) * g .«record_size» ≤ length o → P (fine (oneRecord c) (stored o (c .records * g .«record_size») (part file p (g .«record_size»)))))
+        → P (stopped 15 (length o ∷ []) c o) → P (putRecord file g p c o)
     unfolding putRecord
-    put-cases P fits short = by (leb ((c .records + 1) * s .rs) (length o)) (leb-true _ _)
+    put-cases P fits short = by (leb ((c .records + 1) * g .«record_size») (length o)) (leb-true _ _)
       where
-        by : (t : Bool) → (t ≡ true → (c .records + 1) * s .rs ≤ length o)
-            → P (orElse t (stopped 15 (length o ∷ []) c o) (fine (oneRecord c) (stored o (c .records * s .rs) (part (s .file) p (s .rs)))))
+        by : (t : Bool) → (t ≡ true → (c .records + 1) * g .«record_size» ≤ length o)
+            → P (orElse t (stopped 15 (length o ∷ []) c o) (fine (oneRecord c) (stored o (c .records * g .«record_size») (part file p (g .«record_size»)))))
         by true h = fits (h refl)
         by false h = short
 
@@ -45,57 +45,57 @@ module _ (s : Source) where
   then-then (stopped number values c o) f g = refl
 
   pub put-split : (k m p : ℕ) (c : Counts) (o : List ℕ)
-      → putRecords s (k + m) p c o ≡ andThen (putRecords s k p c o) (putRecords s m (p + k * s .rs))
+      → putRecords file g (k + m) p c o ≡ andThen (putRecords file g k p c o) (putRecords file g m (p + k * g .«record_size»))
   unfolding putRecords
   put-split zero m p c o = rw (zero-add, zero-mul, add-zero)
   put-split (suc k) m p c o =
-      let e : p + suc k * s .rs ≡ p + s .rs + k * s .rs = omega arith in
-      rw (suc-add, then-then, e) (ap (andThen (putRecord s p c o)) (fun-ext (λ c1. fun-ext (put-split k m (p + s .rs) c1))))
+      let e : p + suc k * g .«record_size» ≡ p + g .«record_size» + k * g .«record_size» = omega arith in
+      rw (suc-add, then-then, e) (ap (andThen (putRecord file g p c o)) (fun-ext (λ c1. fun-ext (put-split k m (p + g .«record_size») c1))))
 
   -- Where k records fit, as r says, and one more does not.
-  pub put-some : (k n p : ℕ) (c c1 : Counts) (o o1 : List ℕ) → k < n → putRecords s k p c o ≡ fine c1 o1
-      → length o1 < (c1 .records + 1) * s .rs → putRecords s n p c o ≡ stopped 15 (length o1 ∷ []) c1 o1
+  pub put-some : (k n p : ℕ) (c c1 : Counts) (o o1 : List ℕ) → k < n → putRecords file g k p c o ≡ fine c1 o1
+      → length o1 < (c1 .records + 1) * g .«record_size» → putRecords file g n p c o ≡ stopped 15 (length o1 ∷ []) c1 o1
   unfolding putRecords
   put-some k n p c c1 o o1 l h short =
       let e : n ≡ k + suc (n - (k + 1)) = omega arith in
-      rw (e, put-split k (suc (n - (k + 1))) p c o, h, put-short (p + k * s .rs) c1 o1 short)
+      rw (e, put-split k (suc (n - (k + 1))) p c o, h, put-short (p + k * g .«record_size») c1 o1 short)
 
 -- Collecting: nothing to read, its two refusals, and the walk.
-module _ (file : List ℕ) (h : Header) (ow : ℕ) (out : List ℕ) where
-  pub collected-none : h .records ≡ 0 → collected file h ow out ≡ fine noCounts out
+module _ (file : List ℕ) (h : BTreeV2Header) (out : List ℕ) where
+  pub collected-none : h .«total_records» ≡ 0 → collected file h out ≡ fine noCounts out
   unfolding collected
-  collected-none e = rw (eq-eqb (h .records) 0 e)
+  collected-none e = rw (eq-eqb (h .«total_records») 0 e)
 
-  pub collected-root-none : h .rootRecords ≡ 0 → collected file h ow out ≡ fine noCounts out
+  pub collected-root-none : h .«num_records_in_root» ≡ 0 → collected file h out ≡ fine noCounts out
   unfolding collected
-  collected-root-none e = rw (eq-eqb (h .rootRecords) 0 e, or-true)
+  collected-root-none e = rw (eq-eqb (h .«num_records_in_root») 0 e, or-true)
 
-  module _ (some : h .records ≡ 0 → ⊥) (root : h .rootRecords ≡ 0 → ⊥) where
-    pub collected-8 : h .rs ≡ 0 → collected file h ow out ≡ stopped 8 [] noCounts out
+  module _ (some : h .«total_records» ≡ 0 → ⊥) (root : h .«num_records_in_root» ≡ 0 → ⊥) where
+    pub collected-8 : h .geometry .«record_size» ≡ 0 → collected file h out ≡ stopped 8 [] noCounts out
     unfolding collected
-    collected-8 e = rw (ne-eqb (h .records) 0 some, ne-eqb (h .rootRecords) 0 root, le-ltb 0 (h .rs) (omega arith))
+    collected-8 e = rw (ne-eqb (h .«total_records») 0 some, ne-eqb (h .«num_records_in_root») 0 root, le-ltb 0 (h .geometry .«record_size») (omega arith))
 
     -- Where it is accepted, so was the walk.
-    pub collected-fine : (c : Counts) (o : List ℕ) → collected file h ow out ≡ fine c o
-        → nodeRun (sourceOf file h ow) (collectTests (sourceOf file h ow)) (h .depth) (h .root) (h .rootRecords) noCounts out ≡ fine c o
+    pub collected-fine : (c : Counts) (o : List ℕ) → collected file h out ≡ fine c o
+        → nodeRun file (h .geometry) (collectTests file (h .geometry)) (h .depth) (h .«root_node_address») (h .«num_records_in_root») noCounts out ≡ fine c o
     unfolding collected
     collected-fine c o e =
-        let sized = past (ltb 0 (h .rs)) 8 [] _ (rw (ne-eqb (h .records) 0 some, ne-eqb (h .rootRecords) 0 root) at e) in
+        let sized = past (ltb 0 (h .geometry .«record_size»)) 8 [] _ (rw (ne-eqb (h .«total_records») 0 some, ne-eqb (h .«num_records_in_root») 0 root) at e) in
         past (leb (h .depth) 32) 16 (h .depth ∷ []) _ sized
       where
         past : (t : Bool) (number : ℕ) (values : List ℕ) (r : Run) → orElse t (stopped number values noCounts out) r ≡ fine c o → r ≡ fine c o
         past true number values r f = f
         past false number values r f = cc
 
-    module _ (bytes : h .rs ≡ 0 → ⊥) where
-      pub collected-16 : 32 < h .depth → collected file h ow out ≡ stopped 16 (h .depth ∷ []) noCounts out
+    module _ (bytes : h .geometry .«record_size» ≡ 0 → ⊥) where
+      pub collected-16 : 32 < h .depth → collected file h out ≡ stopped 16 (h .depth ∷ []) noCounts out
       unfolding collected
       collected-16 l =
-          rw (ne-eqb (h .records) 0 some, ne-eqb (h .rootRecords) 0 root, lt-ltb 0 (h .rs) (omega arith), lt-leb (h .depth) 32 l)
+          rw (ne-eqb (h .«total_records») 0 some, ne-eqb (h .«num_records_in_root») 0 root, lt-ltb 0 (h .geometry .«record_size») (omega arith), lt-leb (h .depth) 32 l)
 
       pub collected-walk : h .depth ≤ 32
-          → collected file h ow out
-          ≡ nodeRun (sourceOf file h ow) (collectTests (sourceOf file h ow)) (h .depth) (h .root) (h .rootRecords) noCounts out
+          → collected file h out
+          ≡ nodeRun file (h .geometry) (collectTests file (h .geometry)) (h .depth) (h .«root_node_address») (h .«num_records_in_root») noCounts out
       unfolding collected
       collected-walk l =
-          rw (ne-eqb (h .records) 0 some, ne-eqb (h .rootRecords) 0 root, lt-ltb 0 (h .rs) (omega arith), le-leb (h .depth) 32 l)
+          rw (ne-eqb (h .«total_records») 0 some, ne-eqb (h .«num_records_in_root») 0 root, lt-ltb 0 (h .geometry .«record_size») (omega arith), le-leb (h .depth) 32 l)

@@ -11,7 +11,7 @@ use Rattle.numbers.specs.Numbers.{part}
 use Rattle.numbers.specs.Places.{stored}
 use Rattle.numbers.proofs.Lists.{length-part, part-add, stored-nil, stored-append, length-stored}
 use Rattle.btree_v2_collect.specs.Walk.{Counts, Run, fine, andThen, putRecord, putRecords}
-use Rattle.btree_v2_internal.specs.Internal.{Source}
+use Rattle.node_info.specs.declared.Geometry.{Geometry}
 
 -- Counts added, and counts by their four numbers.
 abbrev pub sum : Counts → Counts → Counts
@@ -54,22 +54,22 @@ module _ (rs : ℕ) where
   puts-none f t z e = record { whole = rw (z, zero-mul); runs = λ c o h. rw (e c, stored-nil) }
 
 -- A record at place p of the file, and n of them.
-module _ (s : Source) where
-  pub puts-record : (p : ℕ) → p + s .rs ≤ length (s .file)
-      → Puts (s .rs) (putRecord s p) (part (s .file) p (s .rs)) (tally 1 0 0 0)
+module _ (file : List ℕ) (g : Geometry) where
+  pub puts-record : (p : ℕ) → p + g .«record_size» ≤ length file
+      → Puts (g .«record_size») (putRecord file g p) (part file p (g .«record_size»)) (tally 1 0 0 0)
   unfolding putRecord
   puts-record p h =
       record {
-        whole = rw (length-part (s .file) p (s .rs) h, one-mul);
+        whole = rw (length-part file p (g .«record_size») h, one-mul);
         runs = λ c o l. rw (le-leb _ _ l) (simp add-zero);
       }
 
-  pub puts-records : (n p : ℕ) → p + n * s .rs ≤ length (s .file)
-      → Puts (s .rs) (putRecords s n p) (part (s .file) p (n * s .rs)) (tally n 0 0 0)
+  pub puts-records : (n p : ℕ) → p + n * g .«record_size» ≤ length file
+      → Puts (g .«record_size») (putRecords file g n p) (part file p (n * g .«record_size»)) (tally n 0 0 0)
   unfolding putRecords
-  puts-records zero p h = rw zero-mul (puts-none (s .rs) (λ c. c) (tally 0 0 0 0) refl (λ c. simp add-zero))
+  puts-records zero p h = rw zero-mul (puts-none (g .«record_size») (λ c. c) (tally 0 0 0 0) refl (λ c. simp add-zero))
   puts-records (suc n) p h =
-      let step = puts-then (s .rs) (puts-record p (omega arith)) (puts-records n (p + s .rs) (omega arith)) in
-      let e : s .rs + n * s .rs ≡ suc n * s .rs = omega arith in
+      let step = puts-then (g .«record_size») (puts-record p (omega arith)) (puts-records n (p + g .«record_size») (omega arith)) in
+      let e : g .«record_size» + n * g .«record_size» ≡ suc n * g .«record_size» = omega arith in
       let f : 1 + n ≡ suc n = omega arith in
       rw (part-add, e, f) at step

@@ -7,27 +7,27 @@ use native.Mathlib.Omega.{arith}
 use lib.ListN.{getD}
 use Rattle.refusal.specs.declared.Refusal.{Refusal}
 use Rattle.refusal.specs.Answer.{Answer, verdictOf}
-use Rattle.btree_v2_collect.specs.Walk.{Counts, Run, fine, stopped, andThen, ifPassed, oneLeaf, oneInternal, oneInternalRecord, Tests, putRecord, putRecords, leafRun, childRun, ownRecordRun, childrenRun, nodeRun}
-use Rattle.btree_v2_internal.specs.Internal.{Source, pointerPlace}
+use Rattle.btree_v2_collect.specs.Walk.{Counts, Run, fine, stopped, andThen, ifPassed, oneLeaf, oneInternal, oneInternalRecord, Tests, putRecord, putRecords, leafRun, childRun, ownRecordRun, childrenRun, nodeRun, recordPlace, pointerTo}
+use Rattle.node_info.specs.declared.Geometry.{Geometry}
 use Rattle.refusal.specs.declared.Verdict.{Verdict}
 use Rattle.refusal.specs.declared.Verdict.the-variants.{Accepted, Refused}
-use Rattle.btree_v2_collect.specs.declared.collect.TreeSizes.{TreeSizes}
+use Rattle.btree_v2_internal.specs.declared.Sizes.{Sizes}
 use Rattle.btree_v2_internal.specs.declared.Node.{Node}
-use Rattle.btree_v2_collect.specs.Collecting.{countsOf, runOf, saturatedCounts, saturatedRun, sourceAt, Readable, Within, ChildAt, ChildrenLeft, Walked, nodeWalk, ownRecordWalk, childrenWalk}
+use Rattle.btree_v2_collect.specs.Collecting.{countsOf, runOf, saturatedCounts, saturatedRun, Readable, Within, ChildAt, ChildrenLeft, Walked}
 use Rattle.refusal.proofs.Answers.{refused-is}
 use Rattle.btree_v2_collect.proofs.Holding.{Alike, from-saturated, records-saturated, alike-after, count-alike, puts-alike, after-alike, own-record-alike, children-alike}
 use Rattle.btree_v2_collect.proofs.Walking.{Step}
 
 -- Counting a leaf or an internal node puts nothing out.
-pub leaf-within : (z : TreeSizes) (t t1 o : List ℕ) → saturatedCounts (countsOf t1) ≡ saturatedCounts (oneLeaf (countsOf t)) → Within z t o → Within z t1 o
+pub leaf-within : (z : Sizes) (t t1 o : List ℕ) → saturatedCounts (countsOf t1) ≡ saturatedCounts (oneLeaf (countsOf t)) → Within z t o → Within z t1 o
 leaf-within z t t1 o e h = rw (records-saturated (oneLeaf (countsOf t)) (countsOf t1) e) h
 
-pub internal-within : (z : TreeSizes) (t t1 o : List ℕ) → saturatedCounts (countsOf t1) ≡ saturatedCounts (oneInternal (countsOf t)) → Within z t o
+pub internal-within : (z : Sizes) (t t1 o : List ℕ) → saturatedCounts (countsOf t1) ≡ saturatedCounts (oneInternal (countsOf t)) → Within z t o
     → Within z t1 o
 internal-within z t t1 o e h = rw (records-saturated (oneInternal (countsOf t)) (countsOf t1) e) h
 
 -- A step, and what follows it.
-module _ {next : Step} (alike : Alike next) {z : TreeSizes} {x : Run} {v : Verdict} {t o : List ℕ} (walked : Walked z x v t o) where
+module _ {next : Step} (alike : Alike next) {z : Sizes} {x : Run} {v : Verdict} {t o : List ℕ} (walked : Walked z x v t o) where
   after : saturatedRun (andThen x next) ≡ saturatedRun (andThen (runOf v t o) next)
   after =
       sym (alike-after alike x) ∙ ap (λ y. saturatedRun (andThen y next)) (sym (walked .ends)) ∙ alike-after alike (runOf v t o)
@@ -50,11 +50,11 @@ test-passes : (test : Answer) (v : Verdict) (c : Counts) (o : List ℕ) (x : Run
 test-passes test v c o x h e = rw (← h, e)
 
 -- The same walk, put otherwise.
-walked-as : {z : TreeSizes} {x y : Run} {v : Verdict} {t o : List ℕ} → saturatedRun x ≡ saturatedRun y → Walked z x v t o → Walked z y v t o
+walked-as : {z : Sizes} {x y : Run} {v : Verdict} {t o : List ℕ} → saturatedRun x ≡ saturatedRun y → Walked z x v t o → Walked z y v t o
 walked-as e walked = record { ends = walked .ends ∙ e; within = walked .within }
 
 -- An accepted answer, taken apart.
-pub walked-accepted : (z : TreeSizes) (x : Run) (v : Verdict) (t o : List ℕ) → v ≡ Accepted → Walked z x v t o → Walked z x Accepted t o
+pub walked-accepted : (z : Sizes) (x : Run) (v : Verdict) (t o : List ℕ) → v ≡ Accepted → Walked z x v t o → Walked z x Accepted t o
 walked-accepted z x v t o e walked = rw e at walked
 
 then-same : (x : Run) (next : Counts → List ℕ → Run) → ((c : Counts) (o : List ℕ) → next c o ≡ fine c o) → andThen x next ≡ x
@@ -77,23 +77,23 @@ module _ (f g h : Counts → List ℕ → Run) where
   then-four e (stopped number values c o) = refl
 
 -- The first m + 1 of some children, the record between, and the k + 1 others.
-module _ (s : Source) (tests : Tests) (d a n : ℕ) (node : ℕ → ℕ → Counts → List ℕ → Run) where
+module _ (file : List ℕ) (g : Geometry) (tests : Tests) (d a n : ℕ) (node : ℕ → ℕ → Counts → List ℕ → Run) where
   abbrev run : ℕ → ℕ → Counts → List ℕ → Run
-  run = childrenRun s tests d a n node
+  run = childrenRun file g tests d a n node
 
   abbrev between : ℕ → Counts → List ℕ → Run
-  between = ownRecordRun s tests d a n node
+  between = ownRecordRun file g a
 
   children-split : (m k i : ℕ) (c : Counts) (o : List ℕ)
       → run (m + suc k) i c o ≡ andThen (andThen (run m i c o) (between (i + m))) (run k (i + m + 1))
   unfolding childrenRun
-  children-split zero k i c o = rw (zero-add, add-zero) (then-two (between i) (run k (i + 1)) fine (childRun s tests d a n node i c o))
+  children-split zero k i c o = rw (zero-add, add-zero) (then-two (between i) (run k (i + 1)) fine (childRun file g tests d a n node i c o))
   children-split (suc m) k i c o =
       let e : i + 1 + m ≡ i + suc m = omega arith in
       rw (suc-add, ← e)
-      (ap (λ f. andThen (childRun s tests d a n node i c o) (λ c1 o1. andThen (between i c1 o1) f))
+      (ap (λ f. andThen (childRun file g tests d a n node i c o) (λ c1 o1. andThen (between i c1 o1) f))
       (fun-ext (λ c1. fun-ext (children-split m k (i + 1) c1)))
-      ∙ then-four (run m (i + 1)) (between (i + 1 + m)) (run k (i + 1 + m + 1)) (between i) (childRun s tests d a n node i c o))
+      ∙ then-four (run m (i + 1)) (between (i + 1 + m)) (run k (i + 1 + m + 1)) (between i) (childRun file g tests d a n node i c o))
 
 -- Depth and children left, as one number: a node has at most 65,536 children, and a half of them is less than all.
 abbrev pub falling : ℕ → ℕ → ℕ
@@ -103,7 +103,7 @@ pub first-falls : (k d left : ℕ) → falling d left ≡ k → 0 < left → fal
 first-falls k d left e some = omega arith
 
 -- The first half of the children is asked as all of them are.
-pub first-asked : (file : List ℕ) (z : TreeSizes) (l : List ℕ) (d a n i left : ℕ) (t o : List ℕ) → ChildrenLeft file z l d a n i left t o
+pub first-asked : (file : List ℕ) (z : Sizes) (l : List ℕ) (d a n i left : ℕ) (t o : List ℕ) → ChildrenLeft file z l d a n i left t o
     → (left ≡ 1 → ⊥) → ChildrenLeft file z l d a n i (left / 2) t o
 first-asked file z l d a n i left t o h more =
     record {
@@ -115,76 +115,76 @@ first-asked file z l d a n i left t o h more =
     }
 
 -- The walk by any tests; what the code tells of a test is its verdict.
-module _ (file : List ℕ) (z : TreeSizes) (tests : Tests) where
-  abbrev s : Source
-  s = sourceAt file z
+module _ (file : List ℕ) (z : Sizes) (tests : Tests) where
+  -- m + 1 children from child i on, with the records between them, of the internal node at a with n records whose children have level d.
+  abbrev children : (d a n m i : ℕ) → Step
+  children d a n = childrenRun file (z .geometry) tests d a n (nodeRun file (z .geometry) tests d)
 
   -- A leaf.
   module _ (x : Node) (t o : List ℕ) (v : Verdict) (tested : verdictOf v ≡ tests .leaf (x .address) (x .records)) where
     pub leaf-stops : (q : Refusal) → v ≡ Refused q → Within z t o
-        → Walked z (nodeWalk file z tests 0 (x .address) (x .records) (countsOf t) o) v t o
-    unfolding nodeWalk nodeRun leafRun
+        → Walked z (nodeRun file (z .geometry) tests 0 (x .address) (x .records) (countsOf t) o) v t o
+    unfolding nodeRun leafRun
     leaf-stops q e within = record { ends = sym (ap saturatedRun (test-stops _ v t o _ q tested e)); within = within }
 
     pub leaf-reads : (t1 : List ℕ) (v1 : Verdict) (t2 o1 : List ℕ) → v ≡ Accepted → saturatedCounts (countsOf t1) ≡ saturatedCounts (oneLeaf (countsOf t))
-        → Walked z (putRecords s (x .records) (x .address + 6) (countsOf t1) o) v1 t2 o1
-        → Walked z (nodeWalk file z tests 0 (x .address) (x .records) (countsOf t) o) v1 t2 o1
-    unfolding nodeWalk nodeRun leafRun
+        → Walked z (putRecords file (z .geometry) (x .records) (x .address + 6) (countsOf t1) o) v1 t2 o1
+        → Walked z (nodeRun file (z .geometry) tests 0 (x .address) (x .records) (countsOf t) o) v1 t2 o1
+    unfolding nodeRun leafRun
     leaf-reads t1 v1 t2 o1 e counts =
         walked-as
-        (from-saturated (puts-alike s (x .records) (x .address + 6)) (oneLeaf (countsOf t)) (countsOf t1) o counts
+        (from-saturated (puts-alike file (z .geometry) (x .records) (x .address + 6)) (oneLeaf (countsOf t)) (countsOf t1) o counts
         ∙ ap saturatedRun (sym (test-passes _ v (countsOf t) o _ tested e)))
 
   -- A node of level d.
   module _ (d a n : ℕ) (t o : List ℕ) where
-    pub node-leaf : (v : Verdict) (t1 o1 : List ℕ) → d ≡ 0 → Walked z (nodeWalk file z tests 0 a n (countsOf t) o) v t1 o1
-        → Walked z (nodeWalk file z tests d a n (countsOf t) o) v t1 o1
+    pub node-leaf : (v : Verdict) (t1 o1 : List ℕ) → d ≡ 0 → Walked z (nodeRun file (z .geometry) tests 0 a n (countsOf t) o) v t1 o1
+        → Walked z (nodeRun file (z .geometry) tests d a n (countsOf t) o) v t1 o1
     node-leaf v t1 o1 e walked = rw e walked
 
     module _ (v : Verdict) (above : d ≡ 0 → ⊥) (tested : verdictOf v ≡ tests .internal (d - 1) a n) where
-      internal-is : nodeWalk file z tests d a n (countsOf t) o
-          ≡ ifPassed (verdictOf v) (countsOf t) o (childrenWalk file z tests (d - 1) a n n 0 (oneInternal (countsOf t)) o)
-      unfolding nodeWalk childrenWalk nodeRun
+      internal-is : nodeRun file (z .geometry) tests d a n (countsOf t) o
+          ≡ ifPassed (verdictOf v) (countsOf t) o (children (d - 1) a n n 0 (oneInternal (countsOf t)) o)
+      unfolding nodeRun
       internal-is =
-          let f : d ≡ suc (d - 1) = omega arith in ap (λ k. nodeWalk file z tests k a n (countsOf t) o) f ∙ rw (← tested)
+          let f : d ≡ suc (d - 1) = omega arith in ap (λ k. nodeRun file (z .geometry) tests k a n (countsOf t) o) f ∙ rw (← tested)
 
-      pub node-stops : (q : Refusal) → v ≡ Refused q → Within z t o → Walked z (nodeWalk file z tests d a n (countsOf t) o) v t o
+      pub node-stops : (q : Refusal) → v ≡ Refused q → Within z t o → Walked z (nodeRun file (z .geometry) tests d a n (countsOf t) o) v t o
       node-stops q e within =
           record { ends = sym (ap saturatedRun (internal-is ∙ test-stops _ v t o _ q refl e)); within = within }
 
       module _ (e : v ≡ Accepted) where
         pub node-reads : (t1 : List ℕ) (v1 : Verdict) (t2 o1 : List ℕ) → saturatedCounts (countsOf t1) ≡ saturatedCounts (oneInternal (countsOf t))
-            → Walked z (childrenWalk file z tests (d - 1) a n (n + 1 - 1) 0 (countsOf t1) o) v1 t2 o1
-            → Walked z (nodeWalk file z tests d a n (countsOf t) o) v1 t2 o1
-        unfolding childrenWalk
+            → Walked z (children (d - 1) a n (n + 1 - 1) 0 (countsOf t1) o) v1 t2 o1
+            → Walked z (nodeRun file (z .geometry) tests d a n (countsOf t) o) v1 t2 o1
         node-reads t1 v1 t2 o1 counts walked =
             let f : n + 1 - 1 ≡ n = omega arith in
             walked-as
-            (from-saturated (children-alike s tests (d - 1) a n n 0) (oneInternal (countsOf t)) (countsOf t1) o counts
+            (from-saturated (children-alike file (z .geometry) tests (d - 1) a n n 0) (oneInternal (countsOf t)) (countsOf t1) o counts
             ∙ ap saturatedRun (sym (internal-is ∙ test-passes _ v (countsOf t) o _ refl e)))
             (rw f at walked)
 
   -- Children of an internal node, `left` of them from child i on.
   module _ (d a n i left : ℕ) (t o : List ℕ) where
     abbrev Reads : Verdict → List ℕ → List ℕ → Type 0
-    Reads = Walked z (childrenWalk file z tests d a n (left - 1) i (countsOf t) o)
+    Reads = Walked z (children d a n (left - 1) i (countsOf t) o)
 
     -- One, and the test after it: by its pointer's place and the records that it put out.
-    module _ (child : Node) (pointer : ChildAt s d a n i child) (one : left ≡ 1) (v : Verdict) (t1 o1 : List ℕ)
-        (walked : Walked z (nodeWalk file z tests d (child .address) (child .records) (countsOf t) o) v t1 o1) where
+    module _ (child : Node) (pointer : ChildAt file (z .geometry) d a n i child) (one : left ≡ 1) (v : Verdict) (t1 o1 : List ℕ)
+        (walked : Walked z (nodeRun file (z .geometry) tests d (child .address) (child .records) (countsOf t) o) v t1 o1) where
       abbrev after-child : Step
-      after-child c o = ifPassed (tests .child d (pointerPlace s d a n i) (c .records - getD t 0 0)) c o (fine c o)
+      after-child c o = ifPassed (tests .child d (pointerTo (z .geometry) d a n i) (c .records - getD t 0 0)) c o (fine c o)
 
-      child-is : andThen (nodeWalk file z tests d (child .address) (child .records) (countsOf t) o) after-child
-          ≡ childrenWalk file z tests d a n (left - 1) i (countsOf t) o
-      unfolding nodeWalk childrenWalk childrenRun childRun
+      child-is : andThen (nodeRun file (z .geometry) tests d (child .address) (child .records) (countsOf t) o) after-child
+          ≡ children d a n (left - 1) i (countsOf t) o
+      unfolding childrenRun childRun
       child-is = rw (pointer .address, pointer .records, one)
 
       pub child-stops : (q : Refusal) → v ≡ Refused q → Reads v t1 o1
       child-stops q e = walked-as (ap saturatedRun child-is) (hand-up (after-alike tests d _ _) walked q e)
 
       pub child-tested : v ≡ Accepted → (w : Verdict)
-          → verdictOf w ≡ tests .child d (pointerPlace s d a n i) (getD t1 0 0 - getD t 0 0) → Reads w t1 o1
+          → verdictOf w ≡ tests .child d (pointerTo (z .geometry) d a n i) (getD t1 0 0 - getD t 0 0) → Reads w t1 o1
       child-tested e w code =
           record {
             ends = rw code (sym (go-on (after-alike tests d _ _) walked e)) ∙ ap saturatedRun child-is;
@@ -193,30 +193,27 @@ module _ (file : List ℕ) (z : TreeSizes) (tests : Tests) where
 
     -- More: the first half, the record between and the second half.
     abbrev first-half : Run
-    first-half = childrenWalk file z tests d a n (left / 2 - 1) i (countsOf t) o
+    first-half = children d a n (left / 2 - 1) i (countsOf t) o
 
     abbrev record-between : Counts → List ℕ → Run
-    record-between = ownRecordWalk file z tests d a n (i + left / 2 - 1)
+    record-between = ownRecordRun file (z .geometry) a (i + left / 2 - 1)
 
     abbrev second-half : Counts → List ℕ → Run
-    second-half = childrenWalk file z tests d a n (left - left / 2 - 1) (i + left / 2)
+    second-half = children d a n (left - left / 2 - 1) (i + left / 2)
 
     halves : 0 < left → (left ≡ 1 → ⊥)
-        → andThen (andThen first-half record-between) second-half ≡ childrenWalk file z tests d a n (left - 1) i (countsOf t) o
-    unfolding childrenWalk ownRecordWalk
+        → andThen (andThen first-half record-between) second-half ≡ children d a n (left - 1) i (countsOf t) o
     halves some more =
         let e : left - 1 ≡ left / 2 - 1 + suc (left - left / 2 - 1) = omega arith in
         let f : i + left / 2 - 1 ≡ i + (left / 2 - 1) = omega arith in
         let g : i + left / 2 ≡ i + (left / 2 - 1) + 1 = omega arith in
-        rw (e, f, g) (sym (children-split s tests d a n (nodeRun s tests d) (left / 2 - 1) (left - left / 2 - 1) i (countsOf t) o))
+        rw (e, f, g) (sym (children-split file (z .geometry) tests d a n (nodeRun file (z .geometry) tests d) (left / 2 - 1) (left - left / 2 - 1) i (countsOf t) o))
 
     record-alike : Alike record-between
-    unfolding ownRecordWalk
-    record-alike = own-record-alike s tests d a n (i + left / 2 - 1)
+    record-alike = own-record-alike file (z .geometry) a (i + left / 2 - 1)
 
     half-alike : Alike second-half
-    unfolding childrenWalk
-    half-alike = children-alike s tests d a n (left - left / 2 - 1) (i + left / 2)
+    half-alike = children-alike file (z .geometry) tests d a n (left - left / 2 - 1) (i + left / 2)
 
     pub first-stops : 0 < left → (left ≡ 1 → ⊥) → (v : Verdict) (t1 o1 : List ℕ) → Walked z first-half v t1 o1 → (q : Refusal) → v ≡ Refused q
         → Reads v t1 o1
@@ -240,32 +237,32 @@ module _ (file : List ℕ) (z : TreeSizes) (tests : Tests) where
       abbrev pub RecordPut : Type 0
       RecordPut = PartRead (andThen first-half record-between)
 
-  -- Record i of an internal node: one record put out, and counted.
-  module _ (d : ℕ) (x : Node) (i : ℕ) (t o : List ℕ) (v : Verdict) (t1 o1 : List ℕ)
-      (put : Walked z (putRecords s 1 (x .address + 6 + i * z .«record_size») (countsOf t) o) v t1 o1) where
-    own-record-is : andThen (putRecords s 1 (x .address + 6 + i * z .«record_size») (countsOf t) o) (λ c o. fine (oneInternalRecord c) o)
-        ≡ ownRecordWalk file z tests d (x .address) (x .records) i (countsOf t) o
-    unfolding ownRecordWalk ownRecordRun putRecords sourceAt
-    own-record-is =
-        ap (λ y. andThen y (λ c o. fine (oneInternalRecord c) o))
-        (then-same (putRecord s (x .address + 6 + i * z .«record_size») (countsOf t) o) _ (λ c o. refl))
+-- Record i of the internal node at a: one record put out, and counted.
+module _ (file : List ℕ) (z : Sizes) (a i : ℕ) (t o : List ℕ) (v : Verdict) (t1 o1 : List ℕ)
+    (put : Walked z (putRecords file (z .geometry) 1 (recordPlace (z .geometry) a i) (countsOf t) o) v t1 o1) where
+  own-record-is : andThen (putRecords file (z .geometry) 1 (recordPlace (z .geometry) a i) (countsOf t) o) (λ c o. fine (oneInternalRecord c) o)
+      ≡ ownRecordRun file (z .geometry) a i (countsOf t) o
+  unfolding ownRecordRun putRecords
+  own-record-is =
+      ap (λ y. andThen y (λ c o. fine (oneInternalRecord c) o))
+      (then-same (putRecord file (z .geometry) (recordPlace (z .geometry) a i) (countsOf t) o) _ (λ c o. refl))
 
-    pub own-record-stops : (q : Refusal) → v ≡ Refused q → Walked z (ownRecordWalk file z tests d (x .address) (x .records) i (countsOf t) o) v t1 o1
-    own-record-stops q e = walked-as (ap saturatedRun own-record-is) (hand-up count-alike put q e)
+  pub own-record-stops : (q : Refusal) → v ≡ Refused q → Walked z (ownRecordRun file (z .geometry) a i (countsOf t) o) v t1 o1
+  own-record-stops q e = walked-as (ap saturatedRun own-record-is) (hand-up count-alike put q e)
 
-    pub own-record-puts : (t2 : List ℕ) → v ≡ Accepted → saturatedCounts (countsOf t2) ≡ saturatedCounts (oneInternalRecord (countsOf t1))
-        → Walked z (ownRecordWalk file z tests d (x .address) (x .records) i (countsOf t) o) Accepted t2 o1
-    own-record-puts t2 e counts =
-        record {
-          ends = ap (λ c. fine c o1) counts ∙ sym (sym (ap saturatedRun own-record-is) ∙ go-on count-alike put e);
-          within = rw (records-saturated (oneInternalRecord (countsOf t1)) (countsOf t2) counts) (put .within);
-        }
+  pub own-record-puts : (t2 : List ℕ) → v ≡ Accepted → saturatedCounts (countsOf t2) ≡ saturatedCounts (oneInternalRecord (countsOf t1))
+      → Walked z (ownRecordRun file (z .geometry) a i (countsOf t) o) Accepted t2 o1
+  own-record-puts t2 e counts =
+      record {
+        ends = ap (λ c. fine c o1) counts ∙ sym (sym (ap saturatedRun own-record-is) ∙ go-on count-alike put e);
+        within = rw (records-saturated (oneInternalRecord (countsOf t1)) (countsOf t2) counts) (put .within);
+      }
 
 -- From where the first half is read on.
-module _ {file : List ℕ} {z : TreeSizes} {tests : Tests} {d a n i left : ℕ} {t o l : List ℕ} where
+module _ {file : List ℕ} {z : Sizes} {tests : Tests} {d a n i left : ℕ} {t o l : List ℕ} where
   -- Record j, put out after the first half, is the one between.
   module _ (first : FirstRead file z tests d a n i left t o l) (j : ℕ) (w : Verdict) (t2 o2 : List ℕ)
-      (put : Walked z (ownRecordWalk file z tests d a n j (countsOf (first .tally)) (first .output)) w t2 o2) (between : j ≡ i + left / 2 - 1) where
+      (put : Walked z (ownRecordRun file (z .geometry) a j (countsOf (first .tally)) (first .output)) w t2 o2) (between : j ≡ i + left / 2 - 1) where
     pub two : Walked z (andThen (first-half file z tests d a n i left t o) (record-between file z tests d a n i left t o)) w t2 o2
     two = walked-as (sym (go-on (record-alike file z tests d a n i left t o) (first .walked) refl)) (rw between at put)
 
@@ -306,6 +303,6 @@ module _ {file : List ℕ} {z : TreeSizes} {tests : Tests} {d a n i left : ℕ} 
         ∙ ap saturatedRun (halves file z tests d a n i left t o (put .asked .some) (put .more)))
 
 -- A level below.
-pub readable-under : (z : TreeSizes) (l : List ℕ) (d : ℕ) → Readable z l d → Readable z l (d - 1)
+pub readable-under : (z : Sizes) (l : List ℕ) (d : ℕ) → Readable z l d → Readable z l (d - 1)
 readable-under z l d h =
     record { some = h .some; deep = omega (arith, h .deep); counts = h .counts; totals = λ u k. h .totals u (omega arith) }

@@ -5,29 +5,31 @@ use mathlib.Core.List.{List, [], _∷_, _++_}
 use lib.Dec.{leb, ltb, eqb}
 use Rattle.numbers.specs.Numbers.{saturated}
 use Rattle.refusal.specs.Answer.{accepted, refused, orElse, cells}
-use Rattle.node_info.specs.Capacity.{countWidth, totalWidth}
+use Rattle.node_info.specs.declared.Geometry.{Geometry}
+use Rattle.node_info.specs.Capacity.{pointerSizeTo}
 use Rattle.btree_v2_collect.specs.Walk.{Counts, Run, fine, stopped, noCounts, Tests, nodeRun}
-use Rattle.btree_v2_internal.specs.Internal.{Source, internalTest}
-use Rattle.btree_v2_header.specs.Header.{Header}
+use Rattle.btree_v2_internal.specs.Internal.{internalTest}
+use Rattle.btree_v2_header.specs.declared.BTreeV2Header.{BTreeV2Header}
 use Rattle.btree_v2_leaf.specs.Leaf.{leafTest}
 
-module _ (s : Source) where
+module _ (file : List ℕ) (g : Geometry) where
   -- Collecting's tests; nothing is tested after a child.
   unfoldable pub collectTests : Tests
-  collectTests = record { leaf = leafTest (s .file) (s .rs); internal = internalTest s; child = λ d p m. accepted [] }
-
--- The file as a tree of this header is walked.
-unfoldable pub sourceOf : List ℕ → Header → ℕ → Source
-sourceOf file h ow =
-    record { file = file; rs = h .rs; ow = ow; cw = countWidth (h .ns) (h .rs); tw = totalWidth (h .ns) (h .rs) ow }
+  collectTests =
+      record {
+        leaf = leafTest file (g .«record_size»);
+        internal = λ d. internalTest file (g .«record_size») (g .«offset_size») (pointerSizeTo g d);
+        child = λ d p m. accepted [];
+      }
 
 -- Collecting the tree of a header into an output.
-unfoldable pub collected : List ℕ → Header → ℕ → List ℕ → Run
-collected file h ow out =
-    orElse (not (eqb (h .records) 0 || eqb (h .rootRecords) 0)) (fine noCounts out)
-    (orElse (ltb 0 (h .rs)) (stopped 8 [] noCounts out)
+unfoldable pub collected : List ℕ → BTreeV2Header → List ℕ → Run
+collected file h out =
+    let g = h .geometry in
+    orElse (not (eqb (h .«total_records») 0 || eqb (h .«num_records_in_root») 0)) (fine noCounts out)
+    (orElse (ltb 0 (g .«record_size»)) (stopped 8 [] noCounts out)
     (orElse (leb (h .depth) 32) (stopped 16 (h .depth ∷ []) noCounts out)
-    (nodeRun (sourceOf file h ow) (collectTests (sourceOf file h ow)) (h .depth) (h .root) (h .rootRecords) noCounts out)))
+    (nodeRun file g (collectTests file g) (h .depth) (h .«root_node_address») (h .«num_records_in_root») noCounts out)))
 
 -- A walk's end as the call gives it: number and two values, and the four counts, each saturated at 2^64 - 1.
 abbrev pub countCells : Counts → List ℕ

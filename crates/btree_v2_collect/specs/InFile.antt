@@ -7,13 +7,14 @@ use lib.ListN.{length}
 use Rattle.numbers.specs.Numbers.{part}
 use Rattle.refusal.specs.Answer.{Answer, accepted}
 use Rattle.plan.specs.Tree.{Kids, last, more, Tree, between, count, size}
-use Rattle.btree_v2_internal.specs.Internal.{Source, pointerPlace, childAddress, childRecords}
-use Rattle.btree_v2_collect.specs.Walk.{Tests}
+use Rattle.node_info.specs.declared.Geometry.{Geometry}
+use Rattle.format.specs.Bytes.{prefixSize}
+use Rattle.btree_v2_collect.specs.Walk.{Tests, recordPlace, pointerTo, addressIn, recordsIn}
 
-module _ (s : Source) where
+module _ (file : List ℕ) (g : Geometry) where
   -- f of the address and the record count of child i of the internal node at a with n records whose children have level d.
   abbrev pub atChild : {A : Type 0} → (ℕ → ℕ → A) → (d a n i : ℕ) → A
-  atChild f d a n i = f (childAddress s (pointerPlace s d a n i)) (childRecords s (pointerPlace s d a n i))
+  atChild f d a n i = let p = pointerTo g d a n i in f (addressIn file g p) (recordsIn file g p)
 
   -- Its child i and m more, each by `node`.
   unfoldable pub kidsAt : (d a n : ℕ) → (ℕ → ℕ → Tree d) → ℕ → ℕ → Kids (Tree d)
@@ -28,46 +29,46 @@ module _ (s : Source) where
   -- The places of n records from place p on.
   unfoldable pub placesFrom : ℕ → ℕ → List ℕ
   placesFrom zero p = []
-  placesFrom (suc n) p = p ∷ placesFrom n (p + s .rs)
+  placesFrom (suc n) p = p ∷ placesFrom n (p + g .«record_size»)
 
   -- Those of child i and m more, each by `places`, and of the node's own records between them.
   unfoldable pub childrenPlaces : (d a n : ℕ) → (ℕ → ℕ → List ℕ) → ℕ → ℕ → List ℕ
   childrenPlaces d a n places zero i = atChild places d a n i
   childrenPlaces d a n places (suc m) i =
-      atChild places d a n i ++ ((a + 6 + i * s .rs) ∷ childrenPlaces d a n places m (i + 1))
+      atChild places d a n i ++ (recordPlace g a i ∷ childrenPlaces d a n places m (i + 1))
 
   -- The places of the tree's records, in the order of collecting.
   unfoldable pub placesAt : ℕ → ℕ → ℕ → List ℕ
-  placesAt zero a n = placesFrom n (a + 6)
+  placesAt zero a n = placesFrom n (a + prefixSize)
   placesAt (suc d) a n = childrenPlaces d a n (placesAt d) n 0
 
   -- The bytes of the records at these places, one after another.
   unfoldable pub recordsAt : List ℕ → List ℕ
   recordsAt [] = []
-  recordsAt (p ∷ ps) = part (s .file) p (s .rs) ++ recordsAt ps
+  recordsAt (p ∷ ps) = part file p (g .«record_size») ++ recordsAt ps
 
   -- The records' bytes of a tree whose root is at a: those of the children from child i on and of the node's own records between them.
   module _ (d a n : ℕ) (bytes : Tree d → ℕ → List ℕ) where
     unfoldable pub childrenBytes : Kids (Tree d) → ℕ → List ℕ
-    childrenBytes (last t) i = bytes t (childAddress s (pointerPlace s d a n i))
+    childrenBytes (last t) i = bytes t (addressIn file g (pointerTo g d a n i))
     childrenBytes (more t ts) i =
-        bytes t (childAddress s (pointerPlace s d a n i)) ++ (part (s .file) (a + 6 + i * s .rs) (s .rs) ++ childrenBytes ts (i + 1))
+        bytes t (addressIn file g (pointerTo g d a n i)) ++ (part file (recordPlace g a i) (g .«record_size») ++ childrenBytes ts (i + 1))
 
   unfoldable pub treeBytes : (d : ℕ) → Tree d → ℕ → List ℕ
-  treeBytes zero n a = part (s .file) (a + 6) (n * s .rs)
+  treeBytes zero n a = part file (a + prefixSize) (n * g .«record_size»)
   treeBytes (suc d) ts a = childrenBytes d a (between ts) (treeBytes d) ts 0
 
 -- Every node passes its tests and its records are there, and every pointer leads to its child.
-module _ (s : Source) (tests : Tests) where
+module _ (file : List ℕ) (g : Geometry) (tests : Tests) where
   pub record NodeSound (answer : Answer) (a n : ℕ) : Type 0 where
     pub passes : answer ≡ accepted []
-    pub there : a + 6 + n * s .rs ≤ length (s .file)
+    pub there : recordPlace g a n ≤ length file
 
   module _ (d a n : ℕ) (sound : Tree d → ℕ → Type 0) where
     pub record ChildSound (t : Tree d) (i : ℕ) : Type 0 where
-      pub records : childRecords s (pointerPlace s d a n i) ≡ count d t
-      pub node : sound t (childAddress s (pointerPlace s d a n i))
-      pub after : tests .child d (pointerPlace s d a n i) (size d t) ≡ accepted []
+      pub records : recordsIn file g (pointerTo g d a n i) ≡ count d t
+      pub node : sound t (addressIn file g (pointerTo g d a n i))
+      pub after : tests .child d (pointerTo g d a n i) (size d t) ≡ accepted []
 
     abbrev pub ChildrenSound : Kids (Tree d) → ℕ → Type 0
     ChildrenSound (last t) i = ChildSound t i

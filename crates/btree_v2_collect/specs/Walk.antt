@@ -7,7 +7,10 @@ use lib.ListN.{length}
 use Rattle.numbers.specs.Numbers.{part}
 use Rattle.numbers.specs.Places.{stored}
 use Rattle.refusal.specs.Answer.{Answer, accepted, refused, orElse}
-use Rattle.btree_v2_internal.specs.Internal.{Source, pointerPlace, childAddress, childRecords}
+use Rattle.node_info.specs.declared.Geometry.{Geometry}
+use Rattle.node_info.specs.Capacity.{countWidth, pointerSizeTo}
+use Rattle.format.specs.Bytes.{prefixSize}
+use Rattle.btree_v2_internal.specs.Internal.{pointerPlace, childAddress, childRecords}
 
 -- Records put out, leaves read, internal nodes read, and records from internal nodes.
 pub record Counts : Type 0 where
@@ -59,38 +62,54 @@ putBytes rs b c o =
     orElse (leb ((c .records + 1) * rs) (length o)) (stopped 15 (length o ∷ []) c o)
     (fine (oneRecord c) (stored o (c .records * rs) b))
 
-module _ (s : Source) where
+module _ (g : Geometry) where
+  -- The place of record i of the node at a.
+  abbrev pub recordPlace : ℕ → ℕ → ℕ
+  recordPlace a i = a + prefixSize + i * g .«record_size»
+
+  -- The place of the pointer to child i, of level d, of the internal node at a with n records.
+  abbrev pub pointerTo : ℕ → ℕ → ℕ → ℕ → ℕ
+  pointerTo d a n i = pointerPlace (g .«record_size») (pointerSizeTo g d) a n i
+
+module _ (file : List ℕ) (g : Geometry) where
+  -- The child's address and record count in the pointer at place p.
+  abbrev pub addressIn : ℕ → ℕ
+  addressIn p = childAddress file (g .«offset_size») p
+
+  abbrev pub recordsIn : ℕ → ℕ
+  recordsIn p = childRecords file (g .«offset_size») (countWidth g) p
+
   -- Puts the record at place p of the file out.
   unfoldable pub putRecord : ℕ → Counts → List ℕ → Run
-  putRecord p = putBytes (s .rs) (part (s .file) p (s .rs))
+  putRecord p = putBytes (g .«record_size») (part file p (g .«record_size»))
 
   -- n records from place p on, one by one.
   unfoldable pub putRecords : ℕ → ℕ → Counts → List ℕ → Run
   putRecords zero p c o = fine c o
-  putRecords (suc n) p c o = andThen (putRecord p c o) (putRecords n (p + s .rs))
+  putRecords (suc n) p c o = andThen (putRecord p c o) (putRecords n (p + g .«record_size»))
 
-module _ (s : Source) (tests : Tests) where
+  -- Record i of the internal node at a.
+  unfoldable pub ownRecordRun : ℕ → ℕ → Counts → List ℕ → Run
+  ownRecordRun a i c o = andThen (putRecord (recordPlace g a i) c o) (λ c1 o1. fine (oneInternalRecord c1) o1)
+
+module _ (file : List ℕ) (g : Geometry) (tests : Tests) where
   unfoldable pub leafRun : ℕ → ℕ → Counts → List ℕ → Run
-  leafRun a n c o = ifPassed (tests .leaf a n) c o (putRecords s n (a + 6) (oneLeaf c) o)
+  leafRun a n c o = ifPassed (tests .leaf a n) c o (putRecords file g n (a + prefixSize) (oneLeaf c) o)
 
   -- The walk over the internal node at a with n records whose children have level d, each walked by `node`.
   module _ (d a n : ℕ) (node : ℕ → ℕ → Counts → List ℕ → Run) where
     -- Child i, and the test after it.
     unfoldable pub childRun : ℕ → Counts → List ℕ → Run
     childRun i c o =
-        let p = pointerPlace s d a n i in
-        andThen (node (childAddress s p) (childRecords s p) c o)
+        let p = pointerTo g d a n i in
+        andThen (node (addressIn file g p) (recordsIn file g p) c o)
         (λ c1 o1. ifPassed (tests .child d p (c1 .records - c .records)) c1 o1 (fine c1 o1))
-
-    -- Record i of the node.
-    unfoldable pub ownRecordRun : ℕ → Counts → List ℕ → Run
-    ownRecordRun i c o = andThen (putRecord s (a + 6 + i * s .rs) c o) (λ c1 o1. fine (oneInternalRecord c1) o1)
 
     -- Child i and, while records are left, record i and what follows.
     unfoldable pub childrenRun : ℕ → ℕ → Counts → List ℕ → Run
     childrenRun zero i c o = childRun i c o
     childrenRun (suc left) i c o =
-        andThen (childRun i c o) (λ c1 o1. andThen (ownRecordRun i c1 o1) (childrenRun left (i + 1)))
+        andThen (childRun i c o) (λ c1 o1. andThen (ownRecordRun file g a i c1 o1) (childrenRun left (i + 1)))
 
   -- The walk over the node of level d at address a with n records.
   unfoldable pub nodeRun : ℕ → ℕ → ℕ → Counts → List ℕ → Run

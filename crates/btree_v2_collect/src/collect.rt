@@ -5,11 +5,10 @@ ghost use mathlib.Core.List.{[]};
 ghost use Prim.Native.Nat.{ℕ, _+_, _-_, _*_, _^_, _≤_, _<_};
 ghost use lib.ListN.{length};
 ghost use Rattle.refusal.specs.Answer.{accepted, verdictOf};
-ghost use Rattle.btree_v2_collect.specs.Walk.{oneLeaf, oneInternal, oneInternalRecord, putRecords};
-ghost use Rattle.btree_v2_collect.specs.Collect.{collected, runCells, runOutput};
-ghost use Rattle.btree_v2_header.specs.Answers.{fieldsOf};
-ghost use Rattle.btree_v2_collect.specs.Answers.{collectedCells, Ends};
-ghost use Rattle.btree_v2_collect.specs.Collecting.{countsOf, tallyOf, saturatedCounts, sourceAt, testsAt, Readable, Within, NodeThere, ChildAt, ChildrenLeft, RootRead, Walked, sizesAbove, nodeWalk, ownRecordWalk, childrenWalk};
+ghost use Rattle.btree_v2_collect.specs.Walk.{oneLeaf, oneInternal, oneInternalRecord, putRecords, ownRecordRun};
+ghost use Rattle.btree_v2_collect.specs.Collect.{collectTests, collected};
+ghost use Rattle.btree_v2_collect.specs.Answers.{Ends};
+ghost use Rattle.btree_v2_collect.specs.Collecting.{countsOf, tallyOf, saturatedCounts, Readable, Within, NodeThere, ChildAt, ChildrenLeft, RootRead, Walked, nodeWalk, childrenWalk};
 use crate::Collected;
 use crate::Tally;
 use btree_v2_header::BTreeV2Header;
@@ -18,15 +17,6 @@ use btree_v2_internal::Sizes;
 use node_info::NodeInfo;
 use refusal::Refusal;
 use refusal::Verdict;
-
-// Sizes in bytes of a tree; those of subtrees' totals stand in a table beside them, by the level of the subtree's root.
-struct TreeSizes {
-    node_size: u32,
-    record_size: u16,
-    offset_size: u8,
-    // of a child's record count
-    count_size: u8,
-}
 
 // A tally: records put out, leaves read, internal nodes read, and records from internal nodes. One leaf more, one internal node, or one record
 // from an internal node.
@@ -67,16 +57,16 @@ fn fitting(n: u16, size: u16, room: usize) -> usize
 // Puts n records from place `from` of the file on out, after those that are there: as many as fit, and 15 where one does not.
 fn put_records(
     file: &[u8],
-    sizes: TreeSizes,
+    sizes: Sizes,
     from: usize,
     n: u16,
     tally: &mut [u64; 4],
     output: &mut [u8],
 ) -> Verdict
-    requires { ⌜ (0 < sizes .«record_size») × (from + n * sizes .«record_size» ≤ length (now file)) × (Within sizes (now tally) (now output)) ⌝ }
-    ensures { λ r. ⌜ Walked sizes (putRecords (sourceAt (now (file .entry)) sizes) n from (countsOf (now (tally .entry))) (now (output .entry))) r (now (tally .exit)) (now (output .exit)) ⌝ }
+    requires { ⌜ (0 < sizes .geometry .«record_size») × (from + n * sizes .geometry .«record_size» ≤ length (now file)) × (Within sizes (now tally) (now output)) ⌝ }
+    ensures { λ r. ⌜ Walked sizes (putRecords (now (file .entry)) (sizes .geometry) n from (countsOf (now (tally .entry))) (now (output .entry))) r (now (tally .exit)) (now (output .exit)) ⌝ }
 {
-    let size = sizes.record_size;
+    let size = sizes.geometry.record_size;
     let at = tally[0] as usize * (size as usize);
     let fit = fitting(n, size, output.len() - at);
     numbers::put_bytes(output, at, &file[from..from + fit * (size as usize)]);
@@ -91,15 +81,15 @@ fn put_records(
 // Reads a leaf, whose records are put out at once.
 fn collect_leaf(
     file: &[u8],
-    sizes: TreeSizes,
+    sizes: Sizes,
     node: Node,
     tally: &mut [u64; 4],
     output: &mut [u8],
 ) -> Verdict
-    requires { ⌜ (0 < sizes .«record_size») × (Within sizes (now tally) (now output)) ⌝ }
-    ensures { λ r. ⌜ Walked sizes (nodeWalk (now (file .entry)) sizes (testsAt (now (file .entry)) sizes) 0 (node .address) (node .records) (countsOf (now (tally .entry))) (now (output .entry))) r (now (tally .exit)) (now (output .exit)) ⌝ }
+    requires { ⌜ (0 < sizes .geometry .«record_size») × (Within sizes (now tally) (now output)) ⌝ }
+    ensures { λ r. ⌜ Walked sizes (nodeWalk (now (file .entry)) (sizes .geometry) 0 (node .address) (node .records) (countsOf (now (tally .entry))) (now (output .entry))) r (now (tally .exit)) (now (output .exit)) ⌝ }
 {
-    let verdict = btree_v2_leaf::check_leaf(file, node.address, node.records, sizes.record_size);
+    let verdict = btree_v2_leaf::check_leaf(file, node.address, node.records, sizes.geometry.record_size);
     let Verdict::Accepted = verdict else {
         return verdict;
     };
@@ -108,66 +98,51 @@ fn collect_leaf(
     put_records(file, sizes, from, node.records, tally, output)
 }
 
-// The sizes of an internal node whose children have level `under`.
-fn sizes_above(sizes: TreeSizes, total_sizes: &[u8; 33], under: usize) -> Sizes
-    requires { ⌜ Readable sizes (now «total_sizes») under ⌝ }
-    ensures { λ r. ⌜ r ≡ sizesAbove sizes under ⌝ }
-{
-    Sizes {
-        record_size: sizes.record_size,
-        offset_size: sizes.offset_size,
-        count_size: sizes.count_size,
-        total_size: total_sizes[under],
-    }
-}
-
 // The tests of an internal node whose children have level `under`.
 fn check_node(
     file: &[u8],
-    sizes: TreeSizes,
+    sizes: Sizes,
     total_sizes: &[u8; 33],
     under: usize,
     node: Node,
 ) -> Verdict
     requires { ⌜ Readable sizes (now «total_sizes») under ⌝ }
-    ensures { λ r. ⌜ verdictOf r ≡ testsAt (now (file .entry)) sizes .internal under (node .address) (node .records) ⌝ }
+    ensures { λ r. ⌜ verdictOf r ≡ collectTests (now (file .entry)) (sizes .geometry) .internal under (node .address) (node .records) ⌝ }
 {
-    btree_v2_internal::check_internal(file, sizes_above(sizes, total_sizes, under), node)
+    btree_v2_internal::check_internal(file, sizes, total_sizes[under], node)
 }
 
 // Child i of an internal node that passed its tests.
 fn child_of(
     file: &[u8],
-    sizes: TreeSizes,
+    sizes: Sizes,
     total_sizes: &[u8; 33],
     under: usize,
     node: Node,
     i: usize,
 ) -> Node
     requires { ⌜ Readable sizes (now «total_sizes») under ⌝ }
-    requires { ⌜ NodeThere (sourceAt (now file) sizes) (node .address) (node .records) ⌝ }
+    requires { ⌜ NodeThere (now file) (sizes .geometry) (node .address) (node .records) ⌝ }
     requires { ⌜ i ≤ node .records ⌝ }
-    ensures { λ r. ⌜ ChildAt (sourceAt (now (file .entry)) sizes) under (node .address) (node .records) i r ⌝ }
+    ensures { λ r. ⌜ ChildAt (now (file .entry)) (sizes .geometry) under (node .address) (node .records) i r ⌝ }
 {
-    let above = sizes_above(sizes, total_sizes, under);
-    btree_v2_internal::read_pointer(file, above, node, i as u16)
+    btree_v2_internal::read_pointer(file, sizes, total_sizes[under], node, i as u16)
 }
 
 // Puts record i of an internal node out.
 fn put_own_record(
     file: &[u8],
-    sizes: TreeSizes,
-    under: usize,
+    sizes: Sizes,
     node: Node,
     i: usize,
     tally: &mut [u64; 4],
     output: &mut [u8],
 ) -> Verdict
-    requires { ⌜ NodeThere (sourceAt (now file) sizes) (node .address) (node .records) ⌝ }
-    requires { ⌜ (i < node .records) × (0 < sizes .«record_size») × (Within sizes (now tally) (now output)) ⌝ }
-    ensures { λ r. ⌜ Walked sizes (ownRecordWalk (now (file .entry)) sizes (testsAt (now (file .entry)) sizes) under (node .address) (node .records) i (countsOf (now (tally .entry))) (now (output .entry))) r (now (tally .exit)) (now (output .exit)) ⌝ }
+    requires { ⌜ NodeThere (now file) (sizes .geometry) (node .address) (node .records) ⌝ }
+    requires { ⌜ (i < node .records) × (0 < sizes .geometry .«record_size») × (Within sizes (now tally) (now output)) ⌝ }
+    ensures { λ r. ⌜ Walked sizes (ownRecordRun (now (file .entry)) (sizes .geometry) (node .address) i (countsOf (now (tally .entry))) (now (output .entry))) r (now (tally .exit)) (now (output .exit)) ⌝ }
 {
-    let from = node.address as usize + 6 + i * (sizes.record_size as usize);
+    let from = node.address as usize + 6 + i * (sizes.geometry.record_size as usize);
     let verdict = put_records(file, sizes, from, 1, tally, output);
     let Verdict::Accepted = verdict else {
         return verdict;
@@ -180,7 +155,7 @@ fn put_own_record(
 // apart and not returned as it came: of an accepted one, one byte is then handed up.
 fn collect_node(
     file: &[u8],
-    sizes: TreeSizes,
+    sizes: Sizes,
     total_sizes: &[u8; 33],
     depth: usize,
     address: u64,
@@ -190,7 +165,7 @@ fn collect_node(
 ) -> Verdict
     requires { ⌜ Readable sizes (now «total_sizes») depth ⌝ }
     requires { ⌜ Within sizes (now tally) (now output) ⌝ }
-    ensures { λ r. ⌜ Walked sizes (nodeWalk (now (file .entry)) sizes (testsAt (now (file .entry)) sizes) depth address records (countsOf (now (tally .entry))) (now (output .entry))) r (now (tally .exit)) (now (output .exit)) ⌝ }
+    ensures { λ r. ⌜ Walked sizes (nodeWalk (now (file .entry)) (sizes .geometry) depth address records (countsOf (now (tally .entry))) (now (output .entry))) r (now (tally .exit)) (now (output .exit)) ⌝ }
 {
     let node = Node { address, records };
     if depth == 0 {
@@ -229,7 +204,7 @@ fn collect_node(
 // One place has all the answers, so that a halving takes little of the stack.
 fn collect_children(
     file: &[u8],
-    sizes: TreeSizes,
+    sizes: Sizes,
     total_sizes: &[u8; 33],
     under: usize,
     address: u64,
@@ -240,7 +215,7 @@ fn collect_children(
     output: &mut [u8],
 ) -> Verdict
     requires { ⌜ ChildrenLeft (now file) sizes (now «total_sizes») under address records i left (now tally) (now output) ⌝ }
-    ensures { λ r. ⌜ Walked sizes (childrenWalk (now (file .entry)) sizes (testsAt (now (file .entry)) sizes) under address records (left - 1) i (countsOf (now (tally .entry))) (now (output .entry))) r (now (tally .exit)) (now (output .exit)) ⌝ }
+    ensures { λ r. ⌜ Walked sizes (childrenWalk (now (file .entry)) (sizes .geometry) under address records (left - 1) i (countsOf (now (tally .entry))) (now (output .entry))) r (now (tally .exit)) (now (output .exit)) ⌝ }
 {
     let node = Node { address, records };
     let mut read = Verdict::Accepted;
@@ -278,7 +253,7 @@ fn collect_children(
         return read;
     };
     let between = i + half - 1;
-    read = put_own_record(file, sizes, under, node, between, tally, output);
+    read = put_own_record(file, sizes, node, between, tally, output);
     let Verdict::Accepted = read else {
         return read;
     };
@@ -313,21 +288,15 @@ fn tally_of(tally: &[u64; 4]) -> Tally
 }
 
 // Collects from the root on: the sizes of the tree by the capacity table, and the walk.
-fn collect_root(file: &[u8], header: BTreeV2Header, offset_size: u8, output: &mut [u8]) -> Collected
+fn collect_root(file: &[u8], header: BTreeV2Header, output: &mut [u8]) -> Collected
     requires { ⌜ RootRead header ⌝ }
-    ensures { λ r. ⌜ Ends (collected (now (file .entry)) (fieldsOf header) «offset_size» (now (output .entry))) r (now (output .exit)) ⌝ }
+    ensures { λ r. ⌜ Ends (collected (now (file .entry)) header (now (output .entry))) r (now (output .exit)) ⌝ }
 {
-    let answer = NodeInfo::compute(
-        header.node_size,
-        header.record_size,
-        offset_size,
-        header.depth,
-    );
+    let geometry = header.geometry;
+    let answer = NodeInfo::compute(geometry, header.depth);
     let info = answer.info;
-    let sizes = TreeSizes {
-        node_size: header.node_size,
-        record_size: header.record_size,
-        offset_size,
+    let sizes = Sizes {
+        geometry,
         count_size: info.max_nrec_size,
     };
     let mut counted: [u64; 4] = [0; 4];
@@ -351,10 +320,9 @@ fn collect_root(file: &[u8], header: BTreeV2Header, offset_size: u8, output: &mu
 pub fn collect_btree_v2_records(
     file: &[u8],
     header: BTreeV2Header,
-    offset_size: u8,
     output: &mut [u8],
 ) -> Collected
-    ensures { λ r. ⌜ (collectedCells r ≡ runCells (collected (now (file .entry)) (fieldsOf header) «offset_size» (now (output .entry)))) × (now (output .exit) ≡ runOutput (collected (now (file .entry)) (fieldsOf header) «offset_size» (now (output .entry)))) ⌝ }
+    ensures { λ r. ⌜ Ends (collected (now (file .entry)) header (now (output .entry))) r (now (output .exit)) ⌝ }
 {
     let tally = Tally {
         records: 0,
@@ -374,7 +342,7 @@ pub fn collect_btree_v2_records(
             tally,
         };
     }
-    if header.record_size == 0 {
+    if header.geometry.record_size == 0 {
         return Collected {
             verdict: Verdict::Refused(Refusal::ZeroRecordSize),
             tally,
@@ -386,5 +354,5 @@ pub fn collect_btree_v2_records(
             tally,
         };
     }
-    collect_root(file, header, offset_size, output)
+    collect_root(file, header, output)
 }

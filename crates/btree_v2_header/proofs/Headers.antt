@@ -15,10 +15,14 @@ use Rattle.refusal.specs.declared.Refusal.{Refusal}
 use Rattle.refusal.specs.Answer.{Answer, accepted, refused, refusalOf, orElse, verdictOf}
 use Rattle.format.specs.Bytes.{headerSignature}
 use Rattle.read_checks.specs.Tests.{needs, same, checksumTest}
-use Rattle.btree_v2_header.specs.Header.{Header, headerFigures, headerAt, parsed}
+use Rattle.btree_v2_header.specs.Header.{headerFigures, headerAt, parsed}
+use Rattle.btree_v2_header.specs.Answers.{Parses}
+use Rattle.btree_v2_header.specs.declared.BTreeV2Header.{BTreeV2Header}
+use Rattle.btree_v2_header.specs.declared.HeaderAnswer.the-variants as header
+use Rattle.refusal.specs.declared.Refusal.the-variants.{InvalidBTreeV2Signature, InvalidBTreeV2Version, InvalidOffsetSize, InvalidLengthSize}
 use Rattle.refusal.specs.declared.Verdict.{Verdict}
 use Rattle.refusal.specs.declared.Verdict.the-variants.{Accepted, Refused}
-use Rattle.btree_v2_header.specs.Parsing.{Begun}
+use Rattle.btree_v2_header.specs.Parsing.{Begun, FieldsThere}
 use Rattle.read_checks.proofs.Checks.{bytes-missing, sum-right, sum-wrong}
 
 -- A number in one byte.
@@ -41,12 +45,16 @@ begun file o ow h s z f =
     record { there = h; signature = s; version = rw (num-1 file (o + 4) (omega arith), z); size = f }
 
 module _ (file : List ℕ) (o ow lw : ℕ) where
+  -- A refusal gives no header.
+  refuses : (r : Refusal) → refusalOf r ≡ parsed file o ow lw → Parses file o ow lw (header.Refused r)
+  refuses r e = record { answer = e; fields = λ h f. cc }
+
   -- What `ensure_len` says of `count` bytes from o on; and that a refusal for want of these is the answer.
   abbrev Code : ℕ → Verdict → Type 0
   Code count v = verdictOf v ≡ needs (o + count) (length file) (accepted [])
 
   abbrev Stop : ℕ → Type 0
-  Stop count = (v : Verdict) (r : Refusal) → v ≡ Refused r → Code count v → refusalOf r ≡ parsed file o ow lw
+  Stop count = (v : Verdict) (r : Refusal) → v ≡ Refused r → Code count v → Parses file o ow lw (header.Refused r)
 
   missing : (count : ℕ) (v : Verdict) (r : Refusal) → v ≡ Refused r → Code count v → (rest : Answer)
       → needs (o + count) (length file) rest ≡ refusalOf r
@@ -55,30 +63,30 @@ module _ (file : List ℕ) (o ow lw : ℕ) where
   -- The tests up to that of the offset size.
   pub stop-start : Stop 4
   unfolding parsed
-  stop-start v r e h = rw (missing 4 v r e h)
+  stop-start v r e h = refuses r (rw (missing 4 v r e h))
 
   module _ (h4 : o + 4 ≤ length file) where
-    pub stop-signature : same (part file o 4) headerSignature ≡ false → refused 2 [] ≡ parsed file o ow lw
+    pub stop-signature : same (part file o 4) headerSignature ≡ false → Parses file o ow lw (header.Refused InvalidBTreeV2Signature)
     unfolding parsed
-    stop-signature x = rw (le-leb _ _ h4, x)
+    stop-signature x = refuses _ (rw (le-leb _ _ h4, x))
 
     module _ (signed : same (part file o 4) headerSignature ≡ true) where
       pub stop-fixed : Stop 16
       unfolding parsed
-      stop-fixed v r e h = rw (le-leb _ _ h4, signed, missing 16 v r e h)
+      stop-fixed v r e h = refuses r (rw (le-leb _ _ h4, signed, missing 16 v r e h))
 
       module _ (h16 : o + 16 ≤ length file) where
         version : num file (o + 4) 1 ≡ getD file (o + 4) 0
         version = num-1 file (o + 4) (omega arith)
 
-        pub stop-version : (x : ℕ) → x ≡ getD file (o + 4) 0 → (x ≡ 0 → ⊥) → refused 3 (x ∷ []) ≡ parsed file o ow lw
+        pub stop-version : (x : ℕ) → x ≡ getD file (o + 4) 0 → (x ≡ 0 → ⊥) → Parses file o ow lw (header.Refused (InvalidBTreeV2Version x))
         unfolding parsed
-        stop-version x e d = rw (le-leb _ _ h4, signed, le-leb _ _ h16, version, ← e, ne-eqb _ _ d)
+        stop-version x e d = refuses _ (rw (le-leb _ _ h4, signed, le-leb _ _ h16, version, ← e, ne-eqb _ _ d))
 
         module _ (z : getD file (o + 4) 0 ≡ 0) where
-          pub stop-offset-size : fieldSize ow ≡ false → refused 4 (ow ∷ []) ≡ parsed file o ow lw
+          pub stop-offset-size : fieldSize ow ≡ false → Parses file o ow lw (header.Refused (InvalidOffsetSize ow))
           unfolding parsed
-          stop-offset-size x = rw (le-leb _ _ h4, signed, le-leb _ _ h16, version, z, x)
+          stop-offset-size x = refuses _ (rw (le-leb _ _ h4, signed, le-leb _ _ h16, version, z, x))
 
   -- The tests from there on, with the ends as the code has them.
   module _ (b : Begun file o ow) where
@@ -102,44 +110,51 @@ module _ (file : List ℕ) (o ow lw : ℕ) where
 
     pub stop-root : Stop (16 + ow)
     unfolding tests
-    stop-root v r e h = rw (begins, missing (16 + ow) v r e h)
+    stop-root v r e h = refuses r (rw (begins, missing (16 + ow) v r e h))
 
     module _ (h1 : o + (16 + ow) ≤ length file) where
       pub stop-count : Stop (16 + ow + 2)
       unfolding tests
-      stop-count v r e h = rw (begins, le-leb _ _ h1, missing (16 + ow + 2) v r e h)
+      stop-count v r e h = refuses r (rw (begins, le-leb _ _ h1, missing (16 + ow + 2) v r e h))
 
       module _ (h2 : o + (16 + ow + 2) ≤ length file) where
-        pub stop-length-size : fieldSize lw ≡ false → refused 5 (lw ∷ []) ≡ parsed file o ow lw
+        pub stop-length-size : fieldSize lw ≡ false → Parses file o ow lw (header.Refused (InvalidLengthSize lw))
         unfolding tests
-        stop-length-size x = rw (begins, le-leb _ _ h1, le-leb _ _ h2, x)
+        stop-length-size x = refuses _ (rw (begins, le-leb _ _ h1, le-leb _ _ h2, x))
 
         module _ (sized : fieldSize lw ≡ true) where
           pub stop-total : Stop (16 + ow + 2 + lw)
           unfolding tests
-          stop-total v r e h = rw (begins, le-leb _ _ h1, le-leb _ _ h2, sized, missing (16 + ow + 2 + lw) v r e h)
+          stop-total v r e h = refuses r (rw (begins, le-leb _ _ h1, le-leb _ _ h2, sized, missing (16 + ow + 2 + lw) v r e h))
 
           module _ (h3 : o + (16 + ow + 2 + lw) ≤ length file) where
             pub stop-sum : Stop (16 + ow + 2 + lw + 4)
             unfolding tests
-            stop-sum v r e h = rw (begins, le-leb _ _ h1, le-leb _ _ h2, sized, le-leb _ _ h3, missing (16 + ow + 2 + lw + 4) v r e h)
+            stop-sum v r e h = refuses r (rw (begins, le-leb _ _ h1, le-leb _ _ h2, sized, le-leb _ _ h3, missing (16 + ow + 2 + lw + 4) v r e h))
 
             module _ (h4 : o + (16 + ow + 2 + lw + 4) ≤ length file) (v : Verdict)
                 (code : verdictOf v ≡ checksumTest file o (o + (16 + ow + 2 + lw)) (accepted [])) where
-              pub stop-checksum : (r : Refusal) → v ≡ Refused r → refusalOf r ≡ parsed file o ow lw
+              pub stop-checksum : (r : Refusal) → v ≡ Refused r → Parses file o ow lw (header.Refused r)
               unfolding tests
               stop-checksum r s =
-                  rw (begins, le-leb _ _ h1, le-leb _ _ h2, sized, le-leb _ _ h3, le-leb _ _ h4, sum-wrong file o _ v code r s)
+                  refuses r
+                  (rw (begins, le-leb _ _ h1, le-leb _ _ h2, sized, le-leb _ _ h3, le-leb _ _ h4, sum-wrong file o _ v code r s))
 
-              pub passed : (h : Header) → v ≡ Accepted → h ≡ headerAt file o ow lw → accepted (headerFigures h) ≡ parsed file o ow lw
+              pub passed : (h : BTreeV2Header) → v ≡ Accepted → h ≡ headerAt file o ow lw → Parses file o ow lw (header.Parsed h)
               unfolding tests
               passed h s e =
-                  rw (begins, le-leb _ _ h1, le-leb _ _ h2, sized, le-leb _ _ h3, le-leb _ _ h4, sum-right file o _ v code s, e)
+                  record {
+                    answer =
+                        rw (begins, le-leb _ _ h1, le-leb _ _ h2, sized, le-leb _ _ h3, le-leb _ _ h4, sum-right file o _ v code s, e);
+                    fields = λ g f. let same : h ≡ g = cc in rw (← same) e;
+                  }
 
--- Of `len` bytes: where the whole header is there, so are its fields; where its first 16 bytes are, so is each of these.
-pub fields-there : (len o ow lw : ℕ) → o + (16 + ow + 2 + lw + 4) ≤ len → o + 18 + ow + lw ≤ len
-fields-there len o ow lw h = omega arith
+-- Where the whole header is there, so are its fields.
+pub fields-there : (file : List ℕ) (o ow lw : ℕ) → Begun file o ow → o + (16 + ow + 2 + lw + 4) ≤ length file → fieldSize lw ≡ true
+    → FieldsThere file o ow lw
+fields-there file o ow lw b h sized = record { there = omega arith; offsets = b .size; lengths = sized }
 
+-- Of `len` bytes, where the first 16 of a header are there: so is each of these.
 module _ (len o k : ℕ) (h : o + 16 ≤ len) (l : k < 16) where
   pub byte-there : o + k < len
   byte-there = omega arith
@@ -148,12 +163,20 @@ module _ (len o k : ℕ) (h : o + 16 ≤ len) (l : k < 16) where
   byte-fits s = omega arith
 
 -- The fields, as they are read.
-pub fields-are : (file : List ℕ) (o ow lw a b c d e f : ℕ) → o + 18 + ow + lw ≤ length file → fieldSize ow ≡ true → fieldSize lw ≡ true → a ≡ num file (o + 6) 4
-    → b ≡ num file (o + 10) 2 → c ≡ num file (o + 12) 2 → d ≡ num file (o + 16) (min ow 8)
+pub fields-are : (file : List ℕ) (o ow lw a b c d e f : ℕ) → FieldsThere file o ow lw → a ≡ num file (o + 6) 4 → b ≡ num file (o + 10) 2 → c ≡ num file (o + 12) 2 → d ≡ num file (o + 16) (min ow 8)
     → e ≡ num file (o + 16 + ow) 2 → f ≡ num file (o + 18 + ow) (min lw 8)
-    → _≡_ {A = Header} (record { treeType = getD file (o + 5) 0; ns = a; rs = b; depth = c; root = d; rootRecords = e; records = f }) (headerAt file o ow lw)
+    → _≡_ {A = BTreeV2Header}
+    (record {
+      «tree_type» = getD file (o + 5) 0;
+      geometry = record { «node_size» = a; «record_size» = b; «offset_size» = ow };
+      depth = c;
+      «root_node_address» = d;
+      «num_records_in_root» = e;
+      «total_records» = f;
+    })
+    (headerAt file o ow lw)
 unfolding headerAt
-fields-are file o ow lw a b c d e f h s l ha hb hc hd he hf =
-    let m : min ow 8 ≡ ow = omega (arith, field-size-le ow s) in
-    let n : min lw 8 ≡ lw = omega (arith, field-size-le lw l) in
-    rw (num-1 file (o + 5) (omega arith), ha, hb, hc, hd, he, hf, m, n)
+fields-are file o ow lw a b c d e f h ha hb hc hd he hf =
+    let m : min ow 8 ≡ ow = omega (arith, field-size-le ow (h .offsets)) in
+    let n : min lw 8 ≡ lw = omega (arith, field-size-le lw (h .lengths)) in
+    rw (num-1 file (o + 5) (omega (arith, h .there)), ha, hb, hc, hd, he, hf, m, n)

@@ -7,33 +7,31 @@ use Rattle.numbers.specs.Numbers.{fieldSize, part, num}
 use Rattle.refusal.specs.Answer.{Answer, accepted, refused, orElse}
 use Rattle.format.specs.Bytes.{headerSignature}
 use Rattle.read_checks.specs.Tests.{needs, same, checksumTest}
+use Rattle.btree_v2_header.specs.declared.BTreeV2Header.{BTreeV2Header}
 
--- The header reader's answer.
-pub record Header : Type 0 where
-  pub treeType : ℕ
-  pub ns : ℕ
-  pub rs : ℕ
-  pub depth : ℕ
-  pub root : ℕ
-  pub rootRecords : ℕ
-  pub records : ℕ
-
-abbrev pub headerFigures : Header → List ℕ
+-- A header's figures, as the answer gives them.
+abbrev pub headerFigures : BTreeV2Header → List ℕ
 headerFigures h =
-    h .treeType ∷ h .ns ∷ h .rs ∷ h .depth ∷ h .root ∷ h .rootRecords ∷ h .records ∷ []
+    h .«tree_type»
+    ∷ h .geometry .«node_size»
+    ∷ h .geometry .«record_size»
+    ∷ h .depth
+    ∷ h .«root_node_address»
+    ∷ h .«num_records_in_root»
+    ∷ h .«total_records»
+    ∷ []
 
 module _ (file : List ℕ) (o ow lw : ℕ) where
   -- The fields of the header at o; split and merge percent are passed over.
-  unfoldable pub headerAt : Header
+  unfoldable pub headerAt : BTreeV2Header
   headerAt =
       record {
-        treeType = num file (o + 5) 1;
-        ns = num file (o + 6) 4;
-        rs = num file (o + 10) 2;
+        «tree_type» = num file (o + 5) 1;
+        geometry = record { «node_size» = num file (o + 6) 4; «record_size» = num file (o + 10) 2; «offset_size» = ow };
         depth = num file (o + 12) 2;
-        root = num file (o + 16) ow;
-        rootRecords = num file (o + 16 + ow) 2;
-        records = num file (o + 18 + ow) lw;
+        «root_node_address» = num file (o + 16) ow;
+        «num_records_in_root» = num file (o + 16 + ow) 2;
+        «total_records» = num file (o + 18 + ow) lw;
       }
 
   -- The answer to reading the header at o.

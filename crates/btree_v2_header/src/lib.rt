@@ -1,21 +1,20 @@
 // The header reader.
 
 ghost use mathlib.Core.Path.{_≡_};
-ghost use mathlib.Core.Bool.{true};
 ghost use Prim.Native.Nat.{_+_, _≤_};
 ghost use lib.ListN.{length};
-ghost use Rattle.numbers.specs.Numbers.{num, fieldSize};
-ghost use Rattle.btree_v2_header.specs.Header.{headerAt, parsed};
-ghost use Rattle.btree_v2_header.specs.Answers.{fieldsOf, headerAnswerOf};
-ghost use Rattle.btree_v2_header.specs.Parsing.{Begun};
+ghost use Rattle.numbers.specs.Numbers.{num};
+ghost use Rattle.btree_v2_header.specs.Header.{headerAt};
+ghost use Rattle.btree_v2_header.specs.Answers.{Parses};
+ghost use Rattle.btree_v2_header.specs.Parsing.{Begun, FieldsThere};
+use node_info::Geometry;
 use refusal::Refusal;
 use refusal::Verdict;
 
 // The header, as it stands in a file.
 pub struct BTreeV2Header {
     pub tree_type: u8,
-    pub node_size: u32,
-    pub record_size: u16,
+    pub geometry: Geometry,
     // 0: the root is a leaf
     pub depth: u16,
     pub root_node_address: u64,
@@ -32,7 +31,7 @@ pub enum HeaderAnswer {
 impl BTreeV2Header {
     // The header at `offset`, for offsets and lengths of these sizes.
     pub fn parse(file: &[u8], offset: u64, offset_size: u8, length_size: u8) -> HeaderAnswer
-        ensures { λ r. ⌜ headerAnswerOf r ≡ parsed (now (file .entry)) offset «offset_size» «length_size» ⌝ }
+        ensures { λ r. ⌜ Parses (now (file .entry)) offset «offset_size» «length_size» r ⌝ }
     {
         if let Verdict::Refused(r) = read_checks::ensure_len(file, offset, 4) {
             return HeaderAnswer::Refused(r);
@@ -58,7 +57,7 @@ impl BTreeV2Header {
 // The same, where the tests up to that of the offset size have passed.
 fn parse_sized(file: &[u8], offset: u64, offset_size: u8, length_size: u8) -> HeaderAnswer
     requires { ⌜ Begun (now file) offset «offset_size» ⌝ }
-    ensures { λ r. ⌜ headerAnswerOf r ≡ parsed (now (file .entry)) offset «offset_size» «length_size» ⌝ }
+    ensures { λ r. ⌜ Parses (now (file .entry)) offset «offset_size» «length_size» r ⌝ }
 {
     let root_end = 16 + (offset_size as u64);
     if let Verdict::Refused(r) = read_checks::ensure_len(file, offset, root_end) {
@@ -87,15 +86,18 @@ fn parse_sized(file: &[u8], offset: u64, offset_size: u8, length_size: u8) -> He
 
 // The fields of the header at `at`.
 fn fields_at(file: &[u8], at: usize, offset_size: u8, length_size: u8) -> BTreeV2Header
-    requires { ⌜ (at + 18 + «offset_size» + «length_size» ≤ length (now file)) × (fieldSize «offset_size» ≡ true) × (fieldSize «length_size» ≡ true) ⌝ }
-    ensures { λ r. ⌜ fieldsOf r ≡ headerAt (now (file .entry)) at «offset_size» «length_size» ⌝ }
+    requires { ⌜ FieldsThere (now file) at «offset_size» «length_size» ⌝ }
+    ensures { λ r. ⌜ r ≡ headerAt (now (file .entry)) at «offset_size» «length_size» ⌝ }
 {
     let root_width = offset_size as usize;
     let total_width = length_size as usize;
     BTreeV2Header {
         tree_type: file[at + 5],
-        node_size: read_u32(file, at + 6),
-        record_size: read_u16(file, at + 10),
+        geometry: Geometry {
+            node_size: read_u32(file, at + 6),
+            record_size: read_u16(file, at + 10),
+            offset_size,
+        },
         depth: read_u16(file, at + 12),
         root_node_address: numbers::read_le(file, at + 16, root_width),
         num_records_in_root: read_u16(file, at + 16 + root_width),

@@ -1,5 +1,5 @@
 -- The tests of an internal node, one law for each way out; what a node that passes them has; and the child that a pointer leads to.
-use mathlib.Core.Path.{_≡_, sym}
+use mathlib.Core.Path.{_≡_, refl, sym}
 use mathlib.Core.Bool.{Bool, true, false}
 use mathlib.Core.List.{List, [], _∷_}
 use Prim.Native.Nat.{ℕ, _+_, _-_, _*_, _%_, _^_, _≤_, _<_, min}
@@ -14,9 +14,10 @@ use Rattle.numbers.proofs.Copying.{part-saturated}
 use Rattle.numbers.proofs.Numbers.{saturated-add}
 use Rattle.refusal.specs.declared.Refusal.{Refusal}
 use Rattle.refusal.specs.Answer.{Answer, accepted, refused, orElse, verdictOf}
-use Rattle.format.specs.Bytes.{internalSignature}
-use Rattle.btree_v2_internal.specs.Internal.{Source, pointerWidth, pointerPlace, childAddress, childRecords, internalBody, internalTest}
-use Rattle.read_checks.specs.Tests.{needs, same, recordsEnd, frontTest}
+use Rattle.format.specs.Bytes.{internalSignature, recordsEnd}
+use Rattle.node_info.specs.Capacity.{childPointerSize}
+use Rattle.btree_v2_internal.specs.Internal.{pointerPlace, childAddress, childRecords, internalBody, internalTest}
+use Rattle.read_checks.specs.Tests.{needs, same, frontTest}
 use Rattle.read_checks.proofs.Passing.{passed, passed-both, there, front-there, front-then}
 use Rattle.refusal.specs.declared.Verdict.{Verdict}
 use Rattle.refusal.specs.declared.Verdict.the-variants.{Accepted, Refused}
@@ -24,63 +25,71 @@ use Rattle.read_checks.proofs.Checks.{bytes-there, bytes-missing, first-refuses
 use Rattle.read_checks.proofs.Nodes.{product-small}
 use Rattle.btree_v2_internal.specs.declared.Sizes.{Sizes}
 use Rattle.btree_v2_internal.specs.declared.Node.{Node}
-use Rattle.btree_v2_internal.specs.Pointers.{sourceBy, pointerSizeBy, pointerAt, addressAt, recordsAt}
+use Rattle.btree_v2_internal.specs.Pointers.{pointerAt, addressAt, recordsAt}
 
 -- An internal node's tests in one row.
-module _ (s : Source) (d a n : ℕ) where
-  pub internal-test-is : internalTest s d a n
-      ≡ needs (a + 6) (length (s .file))
-      (orElse (same (part (s .file) a 4) internalSignature) (refused 2 [])
-      (needs (6 + n * s .rs) (length (s .file) - a)
-      (needs (6 + n * s .rs + (n + 1) * pointerWidth s d) (length (s .file) - a)
-      (orElse (fieldSize (s .ow)) (refused 4 (s .ow ∷ [])) (accepted [])))))
+module _ (file : List ℕ) (rs ow w a n : ℕ) where
+  pub internal-test-is : internalTest file rs ow w a n
+      ≡ needs (a + 6) (length file)
+      (orElse (same (part file a 4) internalSignature) (refused 2 [])
+      (needs (6 + n * rs) (length file - a)
+      (needs (6 + n * rs + (n + 1) * w) (length file - a)
+      (orElse (fieldSize ow) (refused 4 (ow ∷ [])) (accepted [])))))
   unfolding internalTest internalBody
   internal-test-is = rw front-then
 
   -- What an internal node that passes has: its first 6 bytes, its records, and offsets of one of the sizes.
-  pub internal-there : internalTest s d a n ≡ accepted []
-      → (a + 6 ≤ length (s .file)) × (6 + n * s .rs ≤ length (s .file) - a) × (fieldSize (s .ow) ≡ true)
+  pub internal-there : internalTest file rs ow w a n ≡ accepted []
+      → (a + 6 ≤ length file) × (6 + n * rs ≤ length file - a) × (fieldSize ow ≡ true)
   unfolding internalTest internalBody
   internal-there passes =
-      let both = passed-both (frontTest (s .file) internalSignature a) _ [] passes in
-      let records = there (6 + n * s .rs) (length (s .file) - a) [] _ (both .2) in
-      let pointers = there (6 + n * s .rs + (n + 1) * pointerWidth s d) (length (s .file) - a) [] _ (records .1) in
-      (front-there (s .file) internalSignature a _ (both .1), records .0, passed (fieldSize (s .ow)) 4 (s .ow ∷ []) [] _ (pointers .1) .0)
+      let both = passed-both (frontTest file internalSignature a) _ [] passes in
+      let records = there (6 + n * rs) (length file - a) [] _ (both .2) in
+      let pointers = there (6 + n * rs + (n + 1) * w) (length file - a) [] _ (records .1) in
+      (front-there file internalSignature a _ (both .1), records .0, passed (fieldSize ow) 4 (ow ∷ []) [] _ (pointers .1) .0)
 
 -- Pointers of w bytes, at most one more than a node may have records; and those before pointer i, with the node's records.
 module _ (w : ℕ) (narrow : w < 1024) where
   pointers-small : (n : ℕ) → n ≤ 2 ^ 16 → n * w ≤ 2 ^ 26
   pointers-small n h = let b : w ≤ 2 ^ 10 = omega arith in omega (arith, mul-le-mul h b)
 
-  pub pointers-fit : (n : ℕ) → n ≤ 2 ^ 16 → Fits w64 (n * w)
-  pointers-fit n h = omega (arith, pointers-small n h)
+  pub pointers-fit : (n : ℕ) → n < 2 ^ 16 → Fits w64 ((n + 1) * w)
+  pointers-fit n h = omega (arith, pointers-small (n + 1) (omega arith))
+
+  pub pointers-before-fit : (i : ℕ) → i < 2 ^ 16 → Fits w64 (i * w)
+  pointers-before-fit i h = omega (arith, pointers-small i (omega arith))
 
   pub before-fits : (n k i : ℕ) → n < 2 ^ 16 → k < 2 ^ 16 → i < 2 ^ 16 → Fits w64 (6 + n * k + i * w)
   before-fits n k i few size h = omega (arith, pointers-small i (omega arith), product-small n k few size)
 
 -- The bytes of a pointer, as `pointer_size` gives them.
-abbrev PointerSized : Sizes → ℕ → Type 0
-PointerSized z w = (w ≡ pointerSizeBy z) × (w < 1024)
+abbrev PointerSized : Sizes → ℕ → ℕ → Type 0
+PointerSized z u w = (w ≡ childPointerSize (z .geometry) (z .«count_size») u) × (w < 1024)
+
+pub pointer-size-is : (z : Sizes) (u : ℕ) → z .geometry .«offset_size» < 2 ^ 8 → z .«count_size» < 2 ^ 8 → u < 2 ^ 8
+    → PointerSized z u (z .geometry .«offset_size» + z .«count_size» + u)
+unfolding childPointerSize
+pointer-size-is z u h k l = (refl, omega arith)
 
 -- `check_internal`: the front, and the body where the front is accepted.
-module _ (file : List ℕ) (z : Sizes) (x : Node) (front : Verdict) (code : verdictOf front ≡ frontTest file internalSignature (x .address)) where
-  pub internal-front : (q : Refusal) → front ≡ Refused q → verdictOf front ≡ internalTest (sourceBy file z) 0 (x .address) (x .records)
-  unfolding internalTest sourceBy
+module _ (file : List ℕ) (z : Sizes) (u : ℕ) (x : Node) (front : Verdict) (code : verdictOf front ≡ frontTest file internalSignature (x .address)) where
+  pub internal-front : (q : Refusal) → front ≡ Refused q → verdictOf front ≡ internalTest file (z .geometry .«record_size») (z .geometry .«offset_size») (childPointerSize (z .geometry) (z .«count_size») u) (x .address) (x .records)
+  unfolding internalTest
   internal-front = first-refuses front _ _ code
 
   pub internal-body : front ≡ Accepted → (body : Verdict)
-      → verdictOf body ≡ internalBody file (z .«record_size») (z .«offset_size») (pointerSizeBy z) (x .address) (x .records)
-      → verdictOf body ≡ internalTest (sourceBy file z) 0 (x .address) (x .records)
-  unfolding internalTest pointerWidth sourceBy
+      → verdictOf body ≡ internalBody file (z .geometry .«record_size») (z .geometry .«offset_size») (childPointerSize (z .geometry) (z .«count_size») u) (x .address) (x .records)
+      → verdictOf body ≡ internalTest file (z .geometry .«record_size») (z .geometry .«offset_size») (childPointerSize (z .geometry) (z .«count_size») u) (x .address) (x .records)
+  unfolding internalTest
   internal-body e body rest = rw (first-accepts front _ _ code e) rest
 
 -- `check_body`: the tests, in their order, of the part of the file from the node on.
-module _ (file : List ℕ) (z : Sizes) (x : Node) where
+module _ (file : List ℕ) (z : Sizes) (u : ℕ) (x : Node) where
   abbrev recordsEndAt : ℕ
-  recordsEndAt = recordsEnd (z .«record_size») (x .records)
+  recordsEndAt = recordsEnd (z .geometry .«record_size») (x .records)
 
   abbrev answer : Answer
-  answer = internalBody file (z .«record_size») (z .«offset_size») (pointerSizeBy z) (x .address) (x .records)
+  answer = internalBody file (z .geometry .«record_size») (z .geometry .«offset_size») (childPointerSize (z .geometry) (z .«count_size») u) (x .address) (x .records)
 
   abbrev Behind : List ℕ → Type 0
   Behind rest = rest ≡ part file (x .address) (length file)
@@ -95,46 +104,50 @@ module _ (file : List ℕ) (z : Sizes) (x : Node) where
 
   module _ (rest : List ℕ) (w : ℕ) (pointers : Verdict)
       (code : verdictOf pointers ≡ needs (recordsEndAt + (x .records + 1) * w) (length rest) (accepted [])) where
-    pub body-pointers : (q : Refusal) → pointers ≡ Refused q → recordsEndAt ≤ length rest → Behind rest → PointerSized z w → verdictOf pointers ≡ answer
+    pub body-pointers : (q : Refusal) → pointers ≡ Refused q → recordsEndAt ≤ length rest → Behind rest → PointerSized z u w → verdictOf pointers ≡ answer
     unfolding internalBody
     body-pointers q e h is pointer-sized =
         rw (behind-length rest is, le-leb _ _ h, ← pointer-sized .0, e)
         (sym (bytes-missing (recordsEndAt + (x .records + 1) * w) (length rest) pointers code q e _))
 
-    module _ (s : Bool) (size : s ≡ fieldSize (z .«offset_size»)) where
-      sized : pointers ≡ Accepted → Behind rest → PointerSized z w → answer ≡ orElse s (refused 4 (z .«offset_size» ∷ [])) (accepted [])
+    module _ (s : Bool) (size : s ≡ fieldSize (z .geometry .«offset_size»)) where
+      sized : pointers ≡ Accepted → Behind rest → PointerSized z u w → answer ≡ orElse s (refused 4 (z .geometry .«offset_size» ∷ [])) (accepted [])
       unfolding internalBody
       sized all is pointer-sized =
           let h = bytes-there (recordsEndAt + (x .records + 1) * w) (length rest) pointers code all in
           rw (behind-length rest is, le-leb recordsEndAt (length rest) (omega arith), ← pointer-sized .0, le-leb _ _ h, ← size)
 
-      pub body-fine : s ≡ true → pointers ≡ Accepted → Behind rest → PointerSized z w → accepted [] ≡ answer
+      pub body-fine : s ≡ true → pointers ≡ Accepted → Behind rest → PointerSized z u w → accepted [] ≡ answer
       body-fine e all is pointer-sized = rw (sized all is pointer-sized, e)
 
-      pub body-size : s ≡ false → pointers ≡ Accepted → Behind rest → PointerSized z w → refused 4 (z .«offset_size» ∷ []) ≡ answer
+      pub body-size : s ≡ false → pointers ≡ Accepted → Behind rest → PointerSized z u w → refused 4 (z .geometry .«offset_size» ∷ []) ≡ answer
       body-size e all is pointer-sized = rw (sized all is pointer-sized, e)
 
-module _ (file : List ℕ) (z : Sizes) (x : Node) where
+module _ (file : List ℕ) (z : Sizes) (u : ℕ) (x : Node) where
   -- `read_pointer`: the fields of pointer i. No file reaches a place that is saturated.
   at-saturated : (p k : ℕ) → length file < 2 ^ 64 → num file (saturated p) k ≡ num file p k
   unfolding num
   at-saturated p k small = rw (part-saturated file p k small)
 
   module _ (i w : ℕ) where
-    place : PointerSized z w → x .address + (recordsEnd (z .«record_size») (x .records) + i * w) ≡ pointerAt file z x i
-    unfolding pointerAt pointerPlace pointerWidth sourceBy
-    place pointer-sized = rw (pointer-sized .0) (omega arith)
+    place : PointerSized z u w → x .address + (recordsEnd (z .geometry .«record_size») (x .records) + i * w) ≡ pointerAt file z u x i
+    unfolding pointerAt pointerPlace
+    place sized = rw (sized .0) (omega arith)
 
-    pub pointer-is : (at next a n : ℕ) → a ≡ num file at (min (z .«offset_size») 8) → n ≡ num file next (min (z .«count_size») 8)
-        → next ≡ saturated (at + z .«offset_size») → at ≡ saturated (x .address + (recordsEnd (z .«record_size») (x .records) + i * w))
-        → PointerSized z w → length file < 2 ^ 64 → (a ≡ addressAt file z x i) × (n % 65536 ≡ recordsAt file z x i)
-    unfolding addressAt recordsAt
-    pointer-is at next a n ha hn hnext hat pointer-sized small =
-        (rw (ha, hat, at-saturated _ _ small, place pointer-sized), rw (hn, hnext, hat, saturated-add, at-saturated _ _ small, place pointer-sized))
+    module _ (at : ℕ) (begins : at ≡ saturated (x .address + (recordsEnd (z .geometry .«record_size») (x .records) + i * w))) (sized : PointerSized z u w)
+        (small : length file < 2 ^ 64) where
+      pub address-is : (a : ℕ) → a ≡ num file at (min (z .geometry .«offset_size») 8) → a ≡ addressAt file z u x i
+      unfolding addressAt childAddress
+      address-is a e = rw (e, begins, at-saturated _ _ small, place sized)
+
+      pub records-is : (next n : ℕ) → n ≡ num file next (min (z .«count_size») 8) → next ≡ saturated (at + z .geometry .«offset_size»)
+          → n % 65536 ≡ recordsAt file z u x i
+      unfolding recordsAt childRecords
+      records-is next n e after = rw (e, after, begins, saturated-add, at-saturated _ _ small, place sized)
 
   -- Where no field has more than 8 bytes, these are the address and the count of a walk.
-  pub fields-walked : (i : ℕ) → z .«offset_size» ≤ 8 → z .«count_size» ≤ 8
-      → (addressAt file z x i ≡ childAddress (sourceBy file z) (pointerAt file z x i))
-      × (recordsAt file z x i ≡ childRecords (sourceBy file z) (pointerAt file z x i))
-  unfolding addressAt recordsAt childAddress childRecords sourceBy
+  pub fields-walked : (i : ℕ) → z .geometry .«offset_size» ≤ 8 → z .«count_size» ≤ 8
+      → (addressAt file z u x i ≡ childAddress file (z .geometry .«offset_size») (pointerAt file z u x i))
+      × (recordsAt file z u x i ≡ childRecords file (z .geometry .«offset_size») (z .«count_size») (pointerAt file z u x i))
+  unfolding addressAt recordsAt
   fields-walked i address count = (rw (min-eq-left address), rw (min-eq-left count))

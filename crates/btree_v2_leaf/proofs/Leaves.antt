@@ -9,8 +9,8 @@ use mir.Val.{Fits}
 use borrow.Author.Tests.{le-leb, lt-leb}
 use Rattle.refusal.specs.declared.Refusal.{Refusal}
 use Rattle.refusal.specs.Answer.{accepted, verdictOf}
-use Rattle.format.specs.Bytes.{leafSignature}
-use Rattle.read_checks.specs.Tests.{needs, recordsEnd, frontTest, checksumTest}
+use Rattle.format.specs.Bytes.{leafSignature, recordsEnd}
+use Rattle.read_checks.specs.Tests.{needs, frontTest, checksumTest}
 use Rattle.btree_v2_leaf.specs.Leaf.{leafBody, leafTest}
 use Rattle.btree_v2_leaf.proofs.Records as records
 use Rattle.refusal.specs.declared.Verdict.{Verdict}

@@ -7,8 +7,8 @@ use lib.Dec.{leb}
 use lib.ListN.{length}
 use Rattle.numbers.specs.Numbers.{part}
 use Rattle.refusal.specs.Answer.{accepted, refused, orElse}
-use Rattle.format.specs.Bytes.{leafSignature}
-use Rattle.read_checks.specs.Tests.{needs, same, recordsEnd, frontTest, checksumTest}
+use Rattle.format.specs.Bytes.{leafSignature, recordsEnd}
+use Rattle.read_checks.specs.Tests.{needs, same, frontTest, checksumTest}
 use Rattle.btree_v2_leaf.specs.Leaf.{leafBody, leafTest}
 use Rattle.read_checks.proofs.Passing.{passed-both, there, front-then}
 

@@ -4,8 +4,8 @@ use mathlib.Core.List.{List, []}
 use lib.Dec.{leb}
 use lib.ListN.{length}
 use Rattle.refusal.specs.Answer.{Answer, accepted, orElse, onAccepted}
-use Rattle.format.specs.Bytes.{leafSignature}
-use Rattle.read_checks.specs.Tests.{needs, recordsEnd, frontTest, checksumTest}
+use Rattle.format.specs.Bytes.{leafSignature, recordsEnd}
+use Rattle.read_checks.specs.Tests.{needs, frontTest, checksumTest}
 
 -- The body of a leaf at a with n records of rs bytes: records, and the checksum only where its 4 bytes are there.
 unfoldable pub leafBody : List ℕ → ℕ → ℕ → ℕ → Answer

@@ -20,7 +20,7 @@ pub fn check_leaf(file: &[u8], address: u64, count: u16, record_size: u16) -> Ve
 pub fn check_body(file: &[u8], address: u64, count: u16, record_size: u16) -> Verdict
     ensures { λ r. ⌜ verdictOf r ≡ leafBody (now (file .entry)) «record_size» address count ⌝ }
 {
-    let size = read_checks::PREFIX_SIZE + (count as u64) * (record_size as u64);
+    let size = format::PREFIX_SIZE + (count as u64) * (record_size as u64);
     let records = read_checks::ensure_len(file, address, size);
     let Verdict::Accepted = records else {
         return records;

@@ -1,6 +1,6 @@
 -- Tests that the readers share: bytes that are there, a signature, a node's front, a checksum. From document 01, "Header reader",
 -- "Collecting" and "Causes and numbers".
-use Prim.Native.Nat.{ℕ, _+_, _-_, _*_}
+use Prim.Native.Nat.{ℕ, _+_, _-_}
 use mathlib.Core.List.{[], _∷_, List}
 use lib.Dec.{leb, eqb}
 use lib.ListN.{length}
@@ -8,6 +8,7 @@ use Rattle.numbers.specs.Numbers.{saturated, part, num}
 use Rattle.refusal.specs.Answer.{Answer, accepted, refused, orElse}
 use mathlib.Core.Bool.{Bool, true, false, _&&_}
 use Rattle.checksum.specs.Lookup3.{lookup3}
+use Rattle.format.specs.Bytes.{prefixSize}
 
 -- Refusal 1 where fewer than `end` bytes are there of `length`.
 abbrev pub needs : ℕ → ℕ → Answer → Answer
@@ -19,14 +20,6 @@ same [] [] = true
 same [] (y ∷ ys) = false
 same (x ∷ xs) [] = false
 same (x ∷ xs) (y ∷ ys) = eqb x y && same xs ys
-
--- The bytes before a node's records: signature, version, type.
-abbrev pub prefixSize : ℕ
-prefixSize = 6
-
--- The place in a node where n records of rs bytes end.
-abbrev pub recordsEnd : ℕ → ℕ → ℕ
-recordsEnd rs n = prefixSize + n * rs
 
 -- The front of a node at a: 6 bytes, signature.
 unfoldable pub frontTest : List ℕ → List ℕ → ℕ → Answer

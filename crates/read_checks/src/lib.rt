@@ -47,14 +47,11 @@ pub fn has_signature(data: &[u8], at: usize, third: u8, fourth: u8) -> bool
     data[at + 3] == fourth
 }
 
-// The bytes before a node's records: signature, version, type.
-pub const PREFIX_SIZE: u64 = 6;
-
 // The front of a node: its first 6 bytes are there, and its signature is `BT` and these two letters.
 pub fn check_front(file: &[u8], address: u64, third: u8, fourth: u8) -> Verdict
     ensures { λ r. ⌜ verdictOf r ≡ frontTest (now (file .entry)) (66 ∷ 84 ∷ third ∷ fourth ∷ []) address ⌝ }
 {
-    let prefix = ensure_len(file, address, PREFIX_SIZE);
+    let prefix = ensure_len(file, address, format::PREFIX_SIZE);
     let Verdict::Accepted = prefix else {
         return prefix;
     };

@@ -11,6 +11,6 @@ check-internal-spec =
     (λ c κs. search needs)
     (λ c. search needs)
     (λ c. search needs)
-    (λ c. let a = c .before .before .before .before .args in internal-front (a .file .now) (a .sizes) (a .node) (c .before .before .check-front .result) (c .before .before .check-front .ensures) _ (c .enum-told2 .given .1))
+    (λ c. search internal-front)
     (λ c κs. search needs)
     (λ c. search internal-body))

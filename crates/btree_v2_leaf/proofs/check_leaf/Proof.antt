@@ -11,6 +11,6 @@ check-leaf-spec =
     (λ c κs. search needs)
     (λ c. search needs)
     (λ c. search needs)
-    (λ c. let a = c .before .before .before .before .args in leaf-front (a .file .now) (a .record-size) (a .address) (a .count) (c .before .before .check-front .result) (c .before .before .check-front .ensures) _ (c .enum-told2 .given .1))
+    (λ c. search leaf-front)
     (λ c κs. search needs)
     (λ c. search leaf-body))

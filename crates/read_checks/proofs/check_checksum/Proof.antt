@@ -13,5 +13,5 @@ check-checksum-spec =
     (λ c. let a = c .before .before .args in word-fits (a .«data» .now) (a .end) _ (c .read-le .ensures) (λ i. omega (arith, c .before .shared-slice-known .given i)))
     (λ c κs. search needs)
     (λ c κs. search needs)
-    (λ c. let a = c .before .before .before .before .before .args in sums-differ _ _ _ (c .before .before .before .read-le .ensures) (a .from) _ _ (c .before .before .between .ensures) (search needs) (c .if1 .taken))
-    (λ c. let a = c .before .before .before .before .before .args in sums-equal _ _ _ (c .before .before .before .read-le .ensures) (a .from) _ _ (c .before .before .between .ensures) (search needs) (c .if1 .left)))
+    (λ c. search sums-differ)
+    (λ c. search sums-equal))

@@ -5,7 +5,7 @@ use native.Mathlib.Omega.{arith}
 use borrow.Author.Needs.{needs}
 use borrow.Fn.Kinds.{In}
 use borrow.Fn.PlainCycle.{Measures, is, falls, and}
-use Rattle.btree_v2_collect.specs.Collecting.{testsAt}
+use Rattle.btree_v2_collect.specs.Collect.{collectTests}
 use Rattle.btree_v2_collect.proofs.Nodes.{node-there, none-after}
 use Rattle.btree_v2_collect.proofs.Steps.{node-leaf, node-stops, node-reads, internal-within, readable-under, walked-accepted}
 use Rattle.btree_v2_collect.proofs.Steps.{falling, child-stops, child-tested, first-falls, first-asked, first-stops, FirstRead, record-stops, record-put, RecordPut, second-falls, second-asked, second-reads}
@@ -76,7 +76,7 @@ module _ (t : ℕ) where
 
   abbrev first : (c : AfterFirst)
       → let x = entry c .args in
-      FirstRead (x .file .now) (x .sizes) (testsAt (x .file .now) (x .sizes)) (x .under) (x .address) (x .records) (x .i) (x .left) (x .tally .now) (x .output .now) (x .total-sizes .now)
+      FirstRead (x .file .now) (x .sizes) (collectTests (x .file .now) (x .sizes .geometry)) (x .under) (x .address) (x .records) (x .i) (x .left) (x .tally .now) (x .output .now) (x .total-sizes .now)
   first c =
       record {
         asked = entry c .pre .1;
@@ -88,7 +88,7 @@ module _ (t : ℕ) where
 
   abbrev put : (c : AfterRecord)
       → let x = entry (first-of c) .args in
-      RecordPut (x .file .now) (x .sizes) (testsAt (x .file .now) (x .sizes)) (x .under) (x .address) (x .records) (x .i) (x .left) (x .tally .now) (x .output .now) (x .total-sizes .now)
+      RecordPut (x .file .now) (x .sizes) (collectTests (x .file .now) (x .sizes .geometry)) (x .under) (x .address) (x .records) (x .i) (x .left) (x .tally .now) (x .output .now) (x .total-sizes .now)
   put c = record-put (first (first-of c)) _ _ _ _ (c .before .before .before .before .put-own-record .ensures) refl (c .enum-told5 .given .1)
 
 pub +collect-children+collect-node-spec : {M : Type 1} → statement M

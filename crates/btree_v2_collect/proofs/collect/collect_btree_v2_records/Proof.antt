@@ -8,10 +8,10 @@ pub collect-btree-v2-records-spec : {M : Type 1} → statement M
 collect-btree-v2-records-spec =
     tie.close
     (tie.spec
-    (λ c. no-records _ _ _ _ (c .if1 .taken))
-    (λ c. no-root-records _ _ _ _ (c .if2 .taken))
-    (λ c. no-record-size _ _ _ _ (c .before .before .before .before .if1 .left) (c .before .before .if2 .left) (c .if3 .taken))
-    (λ c. too-deep _ _ _ _ (c .before .before .before .before .before .before .if1 .left) (c .before .before .before .before .if2 .left) (c .before .before .if3 .left) (c .if4 .taken))
+    (λ c. search no-records)
+    (λ c. search no-root-records)
+    (λ c. search no-record-size)
+    (λ c. search too-deep)
     (λ c κs. search needs)
     (λ c. search needs)
     (λ c. search needs))

@@ -13,4 +13,4 @@ one-internal-record-spec =
     (λ c. search needs)
     (λ c. search needs)
     (λ c. search needs)
-    (λ c. own-record-more (c .before .before .before .before .before .before .args .tally .now) _ (c .before .before .before .before .saturating-add .ensures)))
+    (λ c. search own-record-more))

@@ -13,4 +13,4 @@ one-leaf-spec =
     (λ c. search needs)
     (λ c. search needs)
     (λ c. search needs)
-    (λ c. leaf-more (c .before .before .before .before .before .before .args .tally .now) _ (c .before .before .before .before .saturating-add .ensures)))
+    (λ c. search leaf-more))

@@ -26,8 +26,6 @@ put-records-spec =
     (λ c. search needs)
     (λ c. search needs)
     (λ c. search needs)
-    (λ c. let fitted = c .before .before .before .before .before .before .before .before .before .before .before in
-    let entry = fitted .before .before .before .before in
-    put-part _ _ _ _ (entry .args .tally .now) _ (entry .pre .0) (entry .pre .1) (entry .pre .2) _ (fitted .fitting .ensures) _ (search) (c .if1 .taken))
+    (λ c. search put-part)
     (λ c. search needs)
     (λ c. search put-all))
