@@ -68,7 +68,6 @@ PointerSized z u w = (w ≡ childPointerSize (z .geometry) (z .«count_size») u
 
 pub pointer-size-is : (z : Sizes) (u : ℕ) → z .geometry .«offset_size» < 2 ^ 8 → z .«count_size» < 2 ^ 8 → u < 2 ^ 8
     → PointerSized z u (z .geometry .«offset_size» + z .«count_size» + u)
-unfolding childPointerSize
 pointer-size-is z u h k l = (refl, omega arith)
 
 -- `check_internal`: the front, and the body where the front is accepted.

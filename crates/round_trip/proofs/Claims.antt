@@ -14,20 +14,22 @@ use Rattle.refusal.proofs.Answers.{refused-is}
 use Rattle.plan.specs.declared.PlanAnswer.{PlanAnswer}
 use Rattle.plan.specs.declared.BTreeV2Plan.{BTreeV2Plan}
 use Rattle.plan.specs.Tree
-use Rattle.plan.specs.Planned.{planned, planFigures, planAnswerOf}
+use Rattle.plan.specs.Planned.{planFigures, planAnswerOf}
 use Rattle.plan.proofs.Checks.{Plannable, accepted-plannable}
-use Rattle.format.specs.Request.{Request, depthOf, nodesOf, rootOf, rootRecordsOf, headerOf, imageOf}
+use Rattle.format.specs.declared.Request.{Request}
+use Rattle.format.specs.Bytes.{headerSize, address}
+use Rattle.format.specs.Request.{depthOf, treeOf, nodesOf, rootOf, rootRecordsOf, headerOf, imageOf}
 use Rattle.write_checks.specs.Writing.{written, headerExit, imageExit}
 use Rattle.numbers.specs.Places.{over}
 use Rattle.btree_v2_collect.specs.Walk.{Counts, fine, noCounts}
-use Rattle.btree_v2_header.specs.Header.{headerFigures, parsed}
+use Rattle.btree_v2_header.specs.Header.{headerFigures, headerAt, parsed}
 use Rattle.btree_v2_collect.specs.Collect.{collected, runCells, runOutput, countCells}
 use Rattle.round_trip.specs.Return.{headerWritten, Returned}
 use Rattle.write_checks.proofs.Accepted.{Accepts, accepts, plan-accepted}
 use Rattle.write_checks.proofs.Fitting.{image-long}
 use Rattle.format.proofs.HeaderLengths.{length-headerOf}
 use Rattle.write_checks.proofs.Outputs.{header-put, image-put}
-use Rattle.round_trip.proofs.Returned.{returns, returns-header, returns-none}
+use Rattle.round_trip.proofs.Returned.{returns, returns-header, returns-fields, returns-none}
 use Rattle.btree_v2_header.specs.declared.BTreeV2Header.{BTreeV2Header}
 use Rattle.btree_v2_header.specs.declared.HeaderAnswer.{HeaderAnswer}
 use Rattle.btree_v2_header.specs.declared.HeaderAnswer.the-variants as header
@@ -35,11 +37,11 @@ use Rattle.refusal.specs.declared.Verdict.{Verdict}
 use Rattle.refusal.specs.declared.Verdict.the-variants as verdict
 use Rattle.btree_v2_collect.specs.declared.Tally.{Tally}
 use Rattle.btree_v2_collect.specs.declared.Collected.{Collected}
-use Rattle.btree_v2_header.specs.Answers.{fieldsOf, headerAnswerOf}
+use Rattle.btree_v2_header.specs.Answers.{headerAnswerOf, Parses}
 use Rattle.btree_v2_collect.specs.Answers.{collectedCells}
 use Rattle.round_trip.specs.declared.RoundTrip.{RoundTrip}
-use Rattle.round_trip.specs.Nodes.{nodeAddress, nodeRecords}
-use Rattle.round_trip.specs.ThreeCalls.{Lent, onHeader, Collects, readBack, Holds, NodesCounted, Complete, Answered}
+use Rattle.round_trip.specs.Nodes.{nodeRecords}
+use Rattle.round_trip.specs.ThreeCalls.{Lent, onHeader, onParsed, Collects, readBack, Holds, NodesCounted, Complete, Answered}
 use Rattle.round_trip.proofs.Roots.{root-address, root-records}
 
 -- An accepted walk's cells: the verdict accepts, and each count is the walk's, saturated.
@@ -78,9 +80,9 @@ front-over b o n e = take-at b (drop (length b) o) n e
 record Figured (q : Request) (p : BTreeV2Plan) : Type 0 where
   depth : p .depth ≡ depthOf q
   nodes : p .nodes ≡ nodesOf q
-  leaves : p .leaves ≡ Tree.leaves (depthOf q) (planned (q .n) (q .rs) (q .ns) (q .ow))
+  leaves : p .leaves ≡ Tree.leaves (depthOf q) (treeOf q)
 
-figured : (q : Request) (p : BTreeV2Plan) → figuresOf p ≡ planFigures (q .n) (q .rs) (q .ns) (q .ow) → Figured q p
+figured : (q : Request) (p : BTreeV2Plan) → figuresOf p ≡ planFigures (q .«record_count») (q .geometry) → Figured q p
 unfolding planFigures nodesOf
 figured q p e = record { depth = cc; nodes = cc; leaves = cc }
 
@@ -90,78 +92,81 @@ no-bytes (x ∷ l) e = absurd (omega arith)
 
 -- An accepted write, a file that holds what it left, and an output that is long enough.
 module _ (q : Request) (p : BTreeV2Plan) (s : Lent) (ok : written q (s .records) (s .header) (s .image) ≡ accepted (figuresOf p))
-    (small : q .rs < 65536) (h i : List ℕ) (left : h ≡ headerExit q (s .records) (s .header) (s .image))
+    (small : q .geometry .«record_size» < 65536) (h i : List ℕ) (left : h ≡ headerExit q (s .records) (s .header) (s .image))
     (image : i ≡ imageExit q (s .records) (s .header) (s .image)) (holds : Holds q p (s .file) (s .place) h i)
-    (long : q .n * q .rs ≤ length (s .output)) where
+    (long : q .«record_count» * q .geometry .«record_size» ≤ length (s .output)) where
   accept : Accepts q (s .records)
   accept = accepts q (s .records) (s .header) (s .image) (figuresOf p) ok
 
-  checked : Plannable (q .n) (q .rs) (q .ns) (q .ow) × (figuresOf p ≡ planFigures (q .n) (q .rs) (q .ns) (q .ow))
+  checked : Plannable (q .«record_count») (q .geometry) × (figuresOf p ≡ planFigures (q .«record_count») (q .geometry))
   checked =
-      accepted-plannable (q .n) (q .rs) (q .ns) (q .ow) (figuresOf p) (plan-accepted q (s .records) (s .header) (s .image) (figuresOf p) ok)
+      accepted-plannable (q .«record_count») (q .geometry) (figuresOf p) (plan-accepted q (s .records) (s .header) (s .image) (figuresOf p) ok)
 
   same : Figured q p
   same = figured q p (checked .1)
 
-  few : q .n ≤ 16777215
+  few : q .«record_count» ≤ 16777215
   few = omega (arith, checked .0 .pass)
 
-  header-stands : part (s .file) (s .place) (22 + q .ow + q .lw) ≡ headerOf q
+  header-stands : part (s .file) (s .place) (headerSize (q .geometry .«offset_size») (q .«length_size»)) ≡ headerOf q
   header-stands =
       holds .header
       ∙ rw (left, header-put q (s .records) (s .header) (s .image) (figuresOf p) ok)
-      (front-over (headerOf q) (s .header) (22 + q .ow + q .lw) (length-headerOf q))
+      (front-over (headerOf q) (s .header) (headerSize (q .geometry .«offset_size») (q .«length_size»)) (length-headerOf q))
 
-  header-back : parsed (s .file) (s .place) (q .ow) (q .lw) ≡ accepted (headerFigures (headerWritten q))
+  header-back : parsed (s .file) (s .place) (q .geometry .«offset_size») (q .«length_size») ≡ accepted (headerFigures (headerWritten q))
   header-back = returns-header q (s .records) (s .header) (s .image) (figuresOf p) ok small (s .file) (s .place) header-stands
+
+  header-there : headerAt (s .file) (s .place) (q .geometry .«offset_size») (q .«length_size») ≡ headerWritten q
+  header-there = returns-fields q (s .records) (s .header) (s .image) (figuresOf p) ok small (s .file) (s .place) header-stands
 
   -- The output with the records written at its front.
   abbrev filled : List ℕ
-  filled = s .records ++ drop (q .n * q .rs) (s .output)
+  filled = s .records ++ drop (q .«record_count» * q .geometry .«record_size») (s .output)
 
-  module _ (r : RoundTrip) (o : List ℕ) (read : headerAnswerOf (r .header) ≡ parsed (s .file) (s .place) (q .ow) (q .lw))
+  module _ (r : RoundTrip) (o : List ℕ) (read : headerAnswerOf (r .header) ≡ parsed (s .file) (s .place) (q .geometry .«offset_size») (q .«length_size»))
       (run : Collects (readBack q s) (r .collected) o) where
     -- All but the counts, where collecting ends with the records put out.
-    module _ (c : Counts) (ends : collected (s .file) (headerWritten q) (q .ow) (s .output) ≡ fine c filled) (all : c .records ≡ q .n) where
+    module _ (c : Counts) (ends : collected (s .file) (headerWritten q) (s .output) ≡ fine c filled) (all : c .records ≡ q .«record_count») where
       whole : readBack q s ≡ fine c filled
-      unfolding readBack headerWritten
-      whole = rw header-back ends
+      unfolding readBack
+      whole = rw (header-back, header-there) ends
 
       tells : CellsSay (r .collected .verdict) (r .collected .tally) c
       unfolding runCells
       tells = cells-say (r .collected .verdict) (r .collected .tally) c (rw whole at (run .cells))
 
-      with-counts : (1 ≤ q .n → NodesCounted q p (r .collected .tally)) → Complete q p (s .records) (s .output) r o
+      with-counts : (1 ≤ q .«record_count» → NodesCounted q p (r .collected .tally)) → Complete q p (s .records) (s .output) r o
       unfolding headerWritten
       with-counts counts =
           let t = tells in
-          let address : rootOf q ≡ nodeAddress q (p .nodes - 1) = rw (same .nodes, root-address q) in
+          let address : rootOf q ≡ address q (p .nodes - 1) = rw (same .nodes, root-address q) in
           let own : rootRecordsOf q ≡ nodeRecords q (p .nodes - 1) = rw (same .nodes, root-records q) in
           let put : o ≡ filled = rw whole at (run .output) in
           record {
             header = rw (address, own, ← same .depth) at (read ∙ header-back);
             collected = t .verdict;
-            front = rw put (take-at (s .records) (drop (q .n * q .rs) (s .output)) (q .n * q .rs) (accept .records));
-            rest = rw put (drop-at (s .records) (drop (q .n * q .rs) (s .output)) (q .n * q .rs) (accept .records));
+            front = rw put (take-at (s .records) (drop (q .«record_count» * q .geometry .«record_size») (s .output)) (q .«record_count» * q .geometry .«record_size») (accept .records));
+            rest = rw put (drop-at (s .records) (drop (q .«record_count» * q .geometry .«record_size») (s .output)) (q .«record_count» * q .geometry .«record_size») (accept .records));
             putOut = omega (arith, t .records, all, few);
             counts = counts;
           }
 
-    none-complete : q .n ≡ 0 → Complete q p (s .records) (s .output) r o
+    none-complete : q .«record_count» ≡ 0 → Complete q p (s .records) (s .output) r o
     none-complete z =
         let empty : s .records ≡ [] = no-bytes (s .records) (rw (z, zero-mul) at (accept .records)) in
         let same-output : s .output ≡ filled = rw (empty, z, zero-mul) in
-        let ends : collected (s .file) (headerWritten q) (q .ow) (s .output) ≡ fine noCounts filled =
+        let ends : collected (s .file) (headerWritten q) (s .output) ≡ fine noCounts filled =
         returns-none q (s .records) (s .header) (s .image) (figuresOf p) ok small (s .file) (s .place) (s .output) z ∙ ap (fine noCounts) same-output
         in
         with-counts noCounts ends (sym z) (λ some. absurd (omega arith))
 
-    module _ (some : 1 ≤ q .n) where
-      image-stands : part (s .file) (q .start) (nodesOf q * q .ns) ≡ imageOf q (s .records)
+    module _ (some : 1 ≤ q .«record_count») where
+      image-stands : part (s .file) (q .start) (nodesOf q * q .geometry .«node_size») ≡ imageOf q (s .records)
       image-stands =
           rw (same .nodes) at (holds .nodes)
           ∙ rw (image, image-put q (s .records) (s .header) (s .image) (figuresOf p) ok)
-          (front-over (imageOf q (s .records)) (s .image) (nodesOf q * q .ns) (image-long q (s .records) accept some))
+          (front-over (imageOf q (s .records)) (s .image) (nodesOf q * q .geometry .«node_size») (image-long q (s .records) accept some))
 
       back : Returned q (s .records) (s .file) (s .place) (s .output)
       back =
@@ -181,36 +186,38 @@ module _ (q : Request) (p : BTreeV2Plan) (s : Lent) (ok : written q (s .records)
           })
 
     pub complete : Complete q p (s .records) (s .output) r o
-    complete = ⊎-elim none-complete some-complete (eq-zero-or-pos (q .n))
+    complete = ⊎-elim none-complete some-complete (eq-zero-or-pos (q .«record_count»))
 
 -- `collect_parsed`, by the header reader's answer.
-module _ (file : List ℕ) (ow : ℕ) (out : List ℕ) (p : HeaderAnswer) where
+module _ (file out : List ℕ) (p : HeaderAnswer) where
   pub collects-parsed : (found : BTreeV2Header) (c : Collected) (o : List ℕ) → p ≡ header.Parsed found
-      → collectedCells c ≡ runCells (collected file (fieldsOf found) ow out) → o ≡ runOutput (collected file (fieldsOf found) ow out)
-      → Collects (onHeader (headerAnswerOf p) file ow out) c o
+      → collectedCells c ≡ runCells (collected file found out) → o ≡ runOutput (collected file found out) → Collects (onParsed p file out) c o
   collects-parsed found c o e hc ho = rw e (record { cells = hc; output = ho })
 
-  pub collects-refused : (cause : Refusal) → p ≡ header.Refused cause
-      → Collects (onHeader (headerAnswerOf p) file ow out) (nothing cause) out
+  pub collects-refused : (cause : Refusal) → p ≡ header.Refused cause → Collects (onParsed p file out) (nothing cause) out
   unfolding runCells
   collects-refused cause e = let t = refused-is cause in record { cells = rw (e, t .2); output = rw (e, t .2) }
 
+-- The header reader's own answer leads on as the definition's.
+leads-on : (file out : List ℕ) (o ow lw : ℕ) (p : HeaderAnswer) → Parses file o ow lw p
+    → onParsed p file out ≡ onHeader (parsed file o ow lw) (headerAt file o ow lw) file out
+leads-on file out o ow lw (header.Parsed h) is = rw (← is .answer, ← is .fields h refl)
+leads-on file out o ow lw (header.Refused r) is = let t = refused-is r in rw (← is .answer, t .2)
+
 -- The three calls.
 module _ (q : Request) (s : Lent) (x : PlanAnswer) (h i : List ℕ) (p : HeaderAnswer) (c : Collected) (o : List ℕ) where
-  pub answered : q .rs < 65536 → planAnswerOf x ≡ written q (s .records) (s .header) (s .image)
+  pub answered : q .geometry .«record_size» < 65536 → planAnswerOf x ≡ written q (s .records) (s .header) (s .image)
       → h ≡ headerExit q (s .records) (s .header) (s .image) → i ≡ imageExit q (s .records) (s .header) (s .image)
-      → headerAnswerOf p ≡ parsed (s .file) (s .place) (q .ow) (q .lw)
-      → collectedCells c ≡ runCells (onHeader (headerAnswerOf p) (s .file) (q .ow) (s .output))
-      → o ≡ runOutput (onHeader (headerAnswerOf p) (s .file) (q .ow) (s .output))
+      → Parses (s .file) (s .place) (q .geometry .«offset_size») (q .«length_size») p → Collects (onParsed p (s .file) (s .output)) c o
       → Answered q s (record { written = x; header = p; collected = c }) h i o
   unfolding readBack
-  answered small wrote hl il cells-say hc ho =
-      let run : Collects (readBack q s) c o = record { cells = rw cells-say at hc; output = rw cells-say at ho } in
+  answered small wrote hl il parses collects =
+      let run : Collects (readBack q s) c o = rw (leads-on (s .file) (s .output) (s .place) _ _ p parses) at collects in
       record {
         written = wrote;
         headerLeft = hl;
         imageLeft = il;
-        parsed = cells-say;
+        parsed = parses .answer;
         collected = run;
-        complete = λ plan e holds long. complete q plan s (sym wrote ∙ ap planAnswerOf e) small h i hl il holds long _ o cells-say run;
+        complete = λ plan e holds long. complete q plan s (sym wrote ∙ ap planAnswerOf e) small h i hl il holds long _ o (parses .answer) run;
       }

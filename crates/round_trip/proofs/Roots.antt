@@ -7,10 +7,10 @@ use native.Mathlib.Omega.{arith}
 use lib.ListN.{length, getD, length-append}
 use lib.Seq.{getD-append-add}
 use Rattle.plan.specs.Tree.{Kids, last, more, Tree, sumKids, count, below, nodes}
-use Rattle.plan.specs.Planned.{planned}
 use Rattle.format.specs.Bytes.{address}
-use Rattle.format.specs.Request.{Request, formOf, depthOf, nodesOf, rootOf, rootRecordsOf}
-use Rattle.round_trip.specs.Nodes.{joinKids, counts, nodeAddress, nodeRecords}
+use Rattle.format.specs.declared.Request.{Request}
+use Rattle.format.specs.Request.{depthOf, treeOf, nodesOf, rootOf, rootRecordsOf}
+use Rattle.round_trip.specs.Nodes.{joinKids, counts, nodeRecords}
 
 length-join : {A : Type 0} (f : A → List ℕ) (g : A → ℕ) → ((t : A) → length (f t) ≡ g t) → (ts : Kids A) → length (joinKids f ts) ≡ sumKids g ts
 unfolding joinKids sumKids
@@ -32,16 +32,16 @@ counts-last (suc d) ts =
     rw (← add-zero (sumKids (λ t. below d t + 1) ts), ← e, getD-append-add)
 
 module _ (q : Request) where
-  pub root-address : nodeAddress q (nodesOf q - 1) ≡ rootOf q
-  unfolding rootOf nodesOf nodes address formOf
+  pub root-address : address q (nodesOf q - 1) ≡ rootOf q
+  unfolding rootOf nodesOf nodes address
   root-address =
-      let tree = planned (q .n) (q .rs) (q .ns) (q .ow) in
+      let tree = treeOf q in
       let e : below (depthOf q) tree + 1 - 1 ≡ below (depthOf q) tree = omega arith in
       rw e
 
   pub root-records : nodeRecords q (nodesOf q - 1) ≡ rootRecordsOf q
   unfolding nodeRecords rootRecordsOf nodesOf nodes
   root-records =
-      let tree = planned (q .n) (q .rs) (q .ns) (q .ow) in
+      let tree = treeOf q in
       let e : below (depthOf q) tree + 1 - 1 ≡ below (depthOf q) tree = omega arith in
       rw (e, counts-last (depthOf q) tree)

@@ -9,18 +9,20 @@ use Rattle.checksum.proofs.Promise.{lookup3, computed}
 use Rattle.numbers.specs.Numbers.{pick, le, unle, num, leastFrom, width, fieldSize}
 use Rattle.numbers.specs.Places.{stored, over}
 use Rattle.refusal.specs.Answer.{cells}
-use Rattle.node_info.specs.Capacity.{leafCapacity, countWidth, childPointerSize, internalCapacity, subtreeCapacity, totalWidth, nodeCapacity}
+use Rattle.node_info.specs.Capacity.{leafCapacity, countWidth, internalCapacity, subtreeCapacity, totalWidth, nodeCapacity}
 use Rattle.plan.specs.Tree.{sumKids, between, count, size, below, nodes, leaves}
 use Rattle.plan.specs.Planned.{taken, distributed, children, kidsOf, planTree, anyOf, thin, leastLevel, planDepth, emptyLevel, planned, planFigures, planAnswer}
 use Rattle.format.specs.Bytes.{summed, padded, pointerBytes, address, recordRange, leafBytes, pointer, pointers, ownRecords, internalBytes, kidsImage, image, headerBytes}
-use Rattle.format.specs.Request.{Request, formOf, nodesOf, imageOf, rootOf, rootRecordsOf, headerOf}
+use Rattle.format.specs.declared.Request.{Request}
+use Rattle.format.specs.Request.{nodesOf, imageOf, rootOf, rootRecordsOf, headerOf}
 use Rattle.write_checks.specs.Writing.{writeAnswer, written, headerExit, imageExit}
 use Rattle.btree_v2_collect.specs.Walk.{putRecord, putRecords, leafRun, childRun, ownRecordRun, childrenRun, nodeRun}
-use Rattle.btree_v2_internal.specs.Internal.{pointerWidth, pointerPlace, childAddress, childRecords, internalBody, internalTest}
+use Rattle.btree_v2_internal.specs.Internal.{pointerPlace, childAddress, childRecords, internalBody, internalTest}
 use Rattle.read_checks.specs.Tests.{same, frontTest, checksumTest}
-use Rattle.btree_v2_header.specs.Header.{Header, headerAt, parsed}
+use Rattle.btree_v2_header.specs.declared.BTreeV2Header.{BTreeV2Header}
+use Rattle.btree_v2_header.specs.Header.{headerAt, parsed}
 use Rattle.btree_v2_leaf.specs.Leaf.{leafBody, leafTest}
-use Rattle.btree_v2_collect.specs.Collect.{collectTests, sourceOf, collected, runCells, runOutput}
+use Rattle.btree_v2_collect.specs.Collect.{collectTests,, collected, runCells, runOutput}
 
 -- w bytes as a hexadecimal number shows them, and nodes of w bytes one after another.
 dump : ℕ → ℕ → List ℕ
@@ -49,7 +51,7 @@ record Trial : Type 0 where
 -- An accepted write, into buffers that are longer by 3 and 2 bytes.
 writing : Request → List ℕ → List ℕ → List ℕ → Trial
 writing q figures header nodes =
-    let recs = ramp (q .n * q .rs) in
+    let recs = ramp (q .«record_count» * q .geometry .«record_size») in
     let h = lent (length header + 3) in
     let i = lent (length nodes + 2) in
     record {
@@ -60,7 +62,7 @@ writing q figures header nodes =
 -- A larger write by the checksums of its header and its image: in this one a subtree's total has two bytes.
 summing : Request → ℕ → ℕ → Trial
 summing q header nodes =
-    record { found = lookup3 (headerOf q) ∷ lookup3 (imageOf q (ramp (q .n * q .rs))) ∷ []; due = header ∷ nodes ∷ [] }
+    record { found = lookup3 (headerOf q) ∷ lookup3 (imageOf q (ramp (q .«record_count» * q .geometry .«record_size»))) ∷ []; due = header ∷ nodes ∷ [] }
 
 -- A refused write, by the lengths of the three buffers.
 refusing : Request → ℕ → ℕ → ℕ → List ℕ → Trial
@@ -72,18 +74,31 @@ reading : List ℕ → ℕ → ℕ → ℕ → List ℕ → Trial
 reading file o ow lw answer = record { found = cells 8 (parsed file o ow lw); due = answer }
 
 -- A collecting into an output of n bytes, of which the first k are then the records put out.
-collecting : List ℕ → Header → ℕ → ℕ → List ℕ → ℕ → Trial
-collecting file h ow n answer k =
-    let r = collected file h ow (lent n) in
+collecting : List ℕ → BTreeV2Header → ℕ → List ℕ → ℕ → Trial
+collecting file h n answer k =
+    let r = collected file h (lent n) in
     record { found = runCells r ++ runOutput r; due = answer ++ (ramp k ++ lent (n - k)) }
 
 request : ℕ → ℕ → ℕ → ℕ → ℕ → ℕ → ℕ → Request
 request treeType n rs ns ow lw start =
-    record { treeType = treeType; n = n; rs = rs; ns = ns; ow = ow; lw = lw; start = start }
+    record {
+      «tree_type» = treeType;
+      «record_count» = n;
+      geometry = record { «node_size» = ns; «record_size» = rs; «offset_size» = ow };
+      «length_size» = lw;
+      start = start;
+    }
 
-header : ℕ → ℕ → ℕ → ℕ → ℕ → ℕ → Header
-header ns rs depth root rootRecords records =
-    record { treeType = 6; ns = ns; rs = rs; depth = depth; root = root; rootRecords = rootRecords; records = records }
+header : ℕ → ℕ → ℕ → ℕ → ℕ → ℕ → ℕ → BTreeV2Header
+header ns rs ow depth root rootRecords records =
+    record {
+      «tree_type» = 6;
+      geometry = record { «node_size» = ns; «record_size» = rs; «offset_size» = ow };
+      depth = depth;
+      «root_node_address» = root;
+      «num_records_in_root» = rootRecords;
+      «total_records» = records;
+    }
 
 -- What the Rust wrote: 40/8/8 with 3 records; 40/8/2 with 4; 40/8/8 with 8, to stand behind 7 bytes and the header; 26/8/4 with 2; 10/8/8
 -- with none.
@@ -197,19 +212,19 @@ collects =
     ∷ eight (take 298 eightFile) 64 (1 ∷ 14 ∷ 13 ∷ none) 0
     ∷ eight (take 318 eightFile) 64 (1 ∷ 34 ∷ 33 ∷ none) 0
     ∷ eight (set (set eightFile 268 144) 269 1) 64 (1 ∷ 406 ∷ 325 ∷ 7 ∷ 3 ∷ 3 ∷ 3 ∷ []) 56
-    ∷ collecting eightFile (header 40 8 2 285 4 8) 8 64 (1 ∷ 88 ∷ 40 ∷ none) 0
-    ∷ collecting eightFile (header 40 8 2 18446744073709551615 1 8) 8 64 (1 ∷ 18446744073709551615 ∷ 325 ∷ none) 0
-    ∷ collecting eightFile (header 40 8 2 285 1 8) 3 64 (4 ∷ 3 ∷ 0 ∷ none) 0
-    ∷ collecting eightFile (header 40 0 33 285 1 8) 8 64 (8 ∷ 0 ∷ 0 ∷ none) 0
-    ∷ collecting eightFile (header 40 8 33 285 1 8) 8 64 (16 ∷ 33 ∷ 0 ∷ none) 0
-    ∷ collecting [] (header 40 0 33 285 0 8) 8 64 (0 ∷ 0 ∷ 0 ∷ none) 0
-    ∷ collecting [] (header 40 0 33 285 1 0) 8 64 (0 ∷ 0 ∷ 0 ∷ none) 0
+    ∷ collecting eightFile (header 40 8 8 2 285 4 8) 64 (1 ∷ 88 ∷ 40 ∷ none) 0
+    ∷ collecting eightFile (header 40 8 8 2 18446744073709551615 1 8) 64 (1 ∷ 18446744073709551615 ∷ 325 ∷ none) 0
+    ∷ collecting eightFile (header 40 8 3 2 285 1 8) 64 (4 ∷ 3 ∷ 0 ∷ none) 0
+    ∷ collecting eightFile (header 40 0 8 33 285 1 8) 64 (8 ∷ 0 ∷ 0 ∷ none) 0
+    ∷ collecting eightFile (header 40 8 8 33 285 1 8) 64 (16 ∷ 33 ∷ 0 ∷ none) 0
+    ∷ collecting [] (header 40 0 8 33 285 0 8) 64 (0 ∷ 0 ∷ 0 ∷ none) 0
+    ∷ collecting [] (header 40 0 8 33 285 1 0) 64 (0 ∷ 0 ∷ 0 ∷ none) 0
     ∷ leaf (take 33 threeImage) (0 ∷ 0 ∷ 0 ∷ 3 ∷ 1 ∷ 0 ∷ 0 ∷ []) 24
     ∷ leaf (set (take 33 threeImage) 32 0) (0 ∷ 0 ∷ 0 ∷ 3 ∷ 1 ∷ 0 ∷ 0 ∷ []) 24
     ∷ leaf (set (take 34 threeImage) 33 0) (6 ∷ 15263223 ∷ 4226344439 ∷ none) 0
     ∷ leaf (take 29 threeImage) (1 ∷ 30 ∷ 29 ∷ none) 0
     ∷ leaf (take 5 threeImage) (1 ∷ 6 ∷ 5 ∷ none) 0
-    ∷ collecting (dump 36 0x4254494e00005511000200011d000100ff42544c4600000b309294cc3042544c4600007a) (header 70000 1 1 0 1 9) 2 6
+    ∷ collecting (dump 36 0x4254494e00005511000200011d000100ff42544c4600000b309294cc3042544c4600007a) (header 70000 1 2 1 0 1 9) 6
     (0 ∷ 0 ∷ 0 ∷ 4 ∷ 2 ∷ 1 ∷ 1 ∷ []) 4
     ∷ []
   where
@@ -217,10 +232,10 @@ collects =
     none = 0 ∷ 0 ∷ 0 ∷ 0 ∷ []
 
     eight : List ℕ → ℕ → List ℕ → ℕ → Trial
-    eight file n answer k = collecting file (header 40 8 2 285 1 8) 8 n answer k
+    eight file n answer k = collecting file (header 40 8 8 2 285 1 8) n answer k
 
     leaf : List ℕ → List ℕ → ℕ → Trial
-    leaf file answer k = collecting file (header 40 8 0 0 3 3) 3 25 answer k
+    leaf file answer k = collecting file (header 40 8 3 0 0 3 3) 25 answer k
 
 -- The numbers of the trials that disagree.
 disagreeing : ℕ → List Trial → List ℕ
@@ -231,9 +246,9 @@ agree : disagreeing 0 (writes ++ (reads ++ collects)) ≡ []
 unfolding computed le unle num leastFrom width fieldSize stored cells leafCapacity countWidth internalCapacity subtreeCapacity
     totalWidth nodeCapacity sumKids between count size below nodes leaves taken distributed children kidsOf planTree anyOf thin
     leastLevel planDepth emptyLevel planned planFigures planAnswer summed padded pointerBytes address recordRange leafBytes pointer pointers ownRecords internalBytes
-    kidsImage image headerBytes over formOf nodesOf imageOf rootOf rootRecordsOf headerOf writeAnswer written headerExit imageExit putRecord
-    putRecords pointerWidth pointerPlace childAddress childRecords leafRun childRun ownRecordRun childrenRun nodeRun same frontTest checksumTest headerAt
-    parsed leafBody leafTest internalBody internalTest collectTests sourceOf collected runCells dump dumps rampFrom ramp lent writing summing refusing reading
+    kidsImage image headerBytes over nodesOf imageOf rootOf rootRecordsOf headerOf writeAnswer written headerExit imageExit putRecord
+    putRecords pointerPlace childAddress childRecords leafRun childRun ownRecordRun childrenRun nodeRun same frontTest checksumTest headerAt
+    parsed leafBody leafTest internalBody internalTest collectTests collected runCells dump dumps rampFrom ramp lent writing summing refusing reading
     collecting request header threeHeader threeImage fourHeader fourImage eightHeader eightImage eightFile twoHeader twoImage noneHeader
     noneImage writes reads collects disagreeing
 agree = refl

@@ -1,11 +1,10 @@
--- The nodes of a plan by their numbers, children first, root last: the address and the own records of each. From document 01, "Planner" and
--- "Header and node image".
+-- The own records of a plan's nodes by their numbers, children first, root last. From document 01, "Planner" and "Header and node image".
 use Prim.Native.Nat.{ℕ, zero, suc, _+_, _*_}
 use mathlib.Core.List.{List, [], _∷_, _++_}
 use lib.ListN.{getD}
 use Rattle.plan.specs.Tree.{Kids, last, more, Tree, between}
-use Rattle.plan.specs.Planned.{planned}
-use Rattle.format.specs.Request.{Request, depthOf}
+use Rattle.format.specs.declared.Request.{Request}
+use Rattle.format.specs.Request.{depthOf, treeOf}
 
 -- The lists that f gives of the children, one after another.
 unfoldable pub joinKids : {A : Type 0} → (A → List ℕ) → Kids A → List ℕ
@@ -17,9 +16,6 @@ unfoldable pub counts : (d : ℕ) → Tree d → List ℕ
 counts zero n = n ∷ []
 counts (suc d) ts = joinKids (counts d) ts ++ (between ts ∷ [])
 
--- The address of node i, and its records.
-abbrev pub nodeAddress : Request → ℕ → ℕ
-nodeAddress q i = q .start + i * q .ns
-
+-- The records of node i of a write.
 unfoldable pub nodeRecords : Request → ℕ → ℕ
-nodeRecords q i = getD (counts (depthOf q) (planned (q .n) (q .rs) (q .ns) (q .ow))) i 0
+nodeRecords q i = getD (counts (depthOf q) (treeOf q)) i 0

@@ -5,24 +5,27 @@ use mathlib.Core.List.{List, [], _∷_}
 use Prim.Native.Nat.{ℕ, _+_, _-_, _*_, _≤_}
 use lib.ListN.{length, getD, take, drop}
 use Rattle.numbers.specs.Numbers.{part}
-use Rattle.refusal.specs.Answer.{Answer, accepted, refused, verdictOf}
+use Rattle.refusal.specs.Answer.{Answer, accepted, refused, refusalOf, verdictOf}
 use Rattle.plan.specs.declared.BTreeV2Plan.{BTreeV2Plan}
 use Rattle.plan.specs.declared.PlanAnswer.the-variants.{Planned}
 use Rattle.plan.specs.Planned.{planAnswerOf}
 use Rattle.write_checks.specs.Writing as writer
-use Rattle.format.specs.Request.{Request}
+use Rattle.format.specs.declared.Request.{Request}
+use Rattle.format.specs.Bytes.{headerSize, address}
 use Rattle.write_checks.specs.Writing.{headerExit, imageExit}
-use Rattle.btree_v2_collect.specs.Walk.{Run, stopped, noCounts}
+use Rattle.btree_v2_collect.specs.Walk.{Run, fine, stopped, ifPassed, noCounts}
 use Rattle.btree_v2_header.specs.Header as reader
 use Rattle.btree_v2_collect.specs.Collect as collector
-use Rattle.btree_v2_header.specs.Header.{Header}
+use Rattle.btree_v2_header.specs.declared.BTreeV2Header.{BTreeV2Header}
+use Rattle.btree_v2_header.specs.declared.HeaderAnswer.{HeaderAnswer}
+use Rattle.btree_v2_header.specs.declared.HeaderAnswer.the-variants as header
 use Rattle.btree_v2_collect.specs.Collect.{runCells, runOutput}
 use Rattle.btree_v2_header.specs.Answers.{headerAnswerOf}
 use Rattle.btree_v2_collect.specs.declared.Collected.{Collected}
 use Rattle.btree_v2_collect.specs.declared.Tally.{Tally}
 use Rattle.btree_v2_collect.specs.Answers.{collectedCells}
 use Rattle.round_trip.specs.declared.RoundTrip.{RoundTrip}
-use Rattle.round_trip.specs.Nodes.{nodeAddress, nodeRecords}
+use Rattle.round_trip.specs.Nodes.{nodeRecords}
 
 -- What the three calls are lent: the record list, the header buffer, the image buffer, the file, the place of the header in it, and the output.
 pub record Lent : Type 0 where
@@ -37,23 +40,15 @@ abbrev pub lent : List ℕ → List ℕ → List ℕ → List ℕ → ℕ → Li
 lent records header image file place output =
     record { records = records; header = header; image = image; file = file; place = place; output = output }
 
--- The header that an answer's figures say.
-abbrev pub headerFrom : List ℕ → Header
-headerFrom figures =
-    record {
-      treeType = getD figures 0 0;
-      ns = getD figures 1 0;
-      rs = getD figures 2 0;
-      depth = getD figures 3 0;
-      root = getD figures 4 0;
-      rootRecords = getD figures 5 0;
-      records = getD figures 6 0;
-    }
-
 -- Collecting the tree of the header that was read; a refused header ends the reading with its refusal.
-abbrev pub onHeader : Answer → List ℕ → ℕ → List ℕ → Run
-onHeader (accepted figures) file ow output = collector.collected file (headerFrom figures) ow output
-onHeader (refused number values) file ow output = stopped number values noCounts output
+abbrev pub onHeader : Answer → BTreeV2Header → List ℕ → List ℕ → Run
+onHeader (accepted figures) h file output = collector.collected file h output
+onHeader (refused number values) h file output = stopped number values noCounts output
+
+-- The same by the header reader's own answer.
+abbrev pub onParsed : HeaderAnswer → List ℕ → List ℕ → Run
+onParsed (header.Parsed h) file output = collector.collected file h output
+onParsed (header.Refused r) file output = ifPassed (refusalOf r) noCounts output (fine noCounts output)
 
 -- A collecting's answer and the output at exit are those of a run.
 pub record Collects (run : Run) (c : Collected) (outputLast : List ℕ) : Type 0 where
@@ -62,13 +57,16 @@ pub record Collects (run : Run) (c : Collected) (outputLast : List ℕ) : Type 0
 
 -- The header reader at the place, and the collector on its answer.
 unfoldable pub readBack : Request → Lent → Run
-readBack q s = onHeader (reader.parsed (s .file) (s .place) (q .ow) (q .lw)) (s .file) (q .ow) (s .output)
+readBack q s =
+    let ow = q .geometry .«offset_size» in
+    let lw = q .«length_size» in
+    onHeader (reader.parsed (s .file) (s .place) ow lw) (reader.headerAt (s .file) (s .place) ow lw) (s .file) (s .output)
 
 -- The file holds, at the place, the header's bytes that the write left, and from start on the bytes of its nodes, NS for each of the nodes that
 -- it answered.
 pub record Holds (q : Request) (p : BTreeV2Plan) (file : List ℕ) (place : ℕ) (headerLast imageLast : List ℕ) : Type 0 where
-  pub header : part file place (22 + q .ow + q .lw) ≡ take (22 + q .ow + q .lw) headerLast
-  pub nodes : part file (q .start) (p .nodes * q .ns) ≡ take (p .nodes * q .ns) imageLast
+  pub header : part file place (headerSize (q .geometry .«offset_size») (q .«length_size»)) ≡ take (headerSize (q .geometry .«offset_size») (q .«length_size»)) headerLast
+  pub nodes : part file (q .start) (p .nodes * q .geometry .«node_size») ≡ take (p .nodes * q .geometry .«node_size») imageLast
 
 -- The counts of leaves and nodes that demand 3 lists, of the plan p that the write answered: leaves as answered, one more than the records from
 -- internal nodes; leaves and internal nodes together the nodes answered, at most N.
@@ -76,25 +74,33 @@ pub record NodesCounted (q : Request) (p : BTreeV2Plan) (t : Tally) : Type 0 whe
   pub leaves : t .leaves ≡ p .leaves
   pub oneMore : t .leaves ≡ t .«internal_records» + 1
   pub allNodes : t .leaves + t .internals ≡ p .nodes
-  pub atMost : p .nodes ≤ q .n
+  pub atMost : p .nodes ≤ q .«record_count»
 
 -- What demand 3 lists, of that plan: the header as written, its root the last of the nodes; collecting accepted; the records written at the front
 -- of the output, and its other bytes as they were; N records put out; and the counts where there is a record: the leaf of none is not read.
 pub record Complete (q : Request) (p : BTreeV2Plan) (recs out : List ℕ) (r : RoundTrip) (outputLast : List ℕ) : Type 0 where
   pub header : headerAnswerOf (r .header)
-      ≡ accepted (q .treeType ∷ q .ns ∷ q .rs ∷ p .depth ∷ nodeAddress q (p .nodes - 1) ∷ nodeRecords q (p .nodes - 1) ∷ q .n ∷ [])
+      ≡ accepted
+      (q .«tree_type»
+      ∷ q .geometry .«node_size»
+      ∷ q .geometry .«record_size»
+      ∷ p .depth
+      ∷ address q (p .nodes - 1)
+      ∷ nodeRecords q (p .nodes - 1)
+      ∷ q .«record_count»
+      ∷ [])
   pub collected : verdictOf (r .collected .verdict) ≡ accepted []
-  pub front : take (q .n * q .rs) outputLast ≡ recs
-  pub rest : drop (q .n * q .rs) outputLast ≡ drop (q .n * q .rs) out
-  pub putOut : r .collected .tally .records ≡ q .n
-  pub counts : 1 ≤ q .n → NodesCounted q p (r .collected .tally)
+  pub front : take (q .«record_count» * q .geometry .«record_size») outputLast ≡ recs
+  pub rest : drop (q .«record_count» * q .geometry .«record_size») outputLast ≡ drop (q .«record_count» * q .geometry .«record_size») out
+  pub putOut : r .collected .tally .records ≡ q .«record_count»
+  pub counts : 1 ≤ q .«record_count» → NodesCounted q p (r .collected .tally)
 
 -- The three calls: the answers and the buffers at exit are those of the three definitions; and demand 3.
 pub record Answered (q : Request) (s : Lent) (r : RoundTrip) (headerLast imageLast outputLast : List ℕ) : Type 0 where
   pub written : planAnswerOf (r .written) ≡ writer.written q (s .records) (s .header) (s .image)
   pub headerLeft : headerLast ≡ headerExit q (s .records) (s .header) (s .image)
   pub imageLeft : imageLast ≡ imageExit q (s .records) (s .header) (s .image)
-  pub parsed : headerAnswerOf (r .header) ≡ reader.parsed (s .file) (s .place) (q .ow) (q .lw)
+  pub parsed : headerAnswerOf (r .header) ≡ reader.parsed (s .file) (s .place) (q .geometry .«offset_size») (q .«length_size»)
   pub collected : Collects (readBack q s) (r .collected) outputLast
   pub complete : (p : BTreeV2Plan) → r .written ≡ Planned p → Holds q p (s .file) (s .place) headerLast imageLast
-      → q .n * q .rs ≤ length (s .output) → Complete q p (s .records) (s .output) r outputLast
+      → q .«record_count» * q .geometry .«record_size» ≤ length (s .output) → Complete q p (s .records) (s .output) r outputLast

@@ -13,4 +13,4 @@ collect-parsed-spec =
     (λ c. search needs)
     (λ c. search needs)
     (λ c. search collects-parsed)
-    (λ c. collects-refused _ _ _ _ _ (c .before .parsed2 .given .1)))
+    (λ c. search collects-refused))
