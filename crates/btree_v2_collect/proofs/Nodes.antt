@@ -1,6 +1,5 @@
 -- An internal node of a tree: it is read by its own sizes, and what it has where it passes its tests.
 use mathlib.Core.Path.{_≡_, refl, sym, ap, _∙_}
-use mathlib.Core.Bool.{true}
 use mathlib.Core.List.{List, []}
 use Prim.Native.Nat.{ℕ, _+_, _*_, _^_, _≤_, _<_}
 use native.Mathlib.Nat.{le-refl, mul-le-mul-right}
@@ -8,12 +7,11 @@ use native.Mathlib.Omega.{arith}
 use lib.ListN.{length, getD}
 use mir.Syntax.{w64}
 use mir.Val.{Fits}
-use Rattle.numbers.specs.Numbers.{fieldSize}
 use Rattle.numbers.proofs.Numbers.{field-size-le}
 use Rattle.refusal.specs.Answer.{accepted, verdictOf}
 use Rattle.node_info.proofs.Capacities.{count-width-le}
-use Rattle.node_info.specs.Capacity.{childPointerSize, countWidth, totalWidth}
-use Rattle.btree_v2_internal.specs.Internal.{pointerPlace, childAddress, childRecords, internalTest}
+use Rattle.node_info.specs.Capacity.{childPointerSize}
+use Rattle.btree_v2_internal.specs.Internal.{internalTest}
 use Rattle.refusal.specs.declared.Verdict.{Verdict}
 use Rattle.refusal.specs.declared.Verdict.the-variants.{Accepted}
 use Rattle.btree_v2_leaf.specs.Leaf.{leafTest}

@@ -1,8 +1,7 @@
 // Collecting: the records of a tree, put out end to end into a lent output.
 
 ghost use mathlib.Core.Path.{_≡_};
-ghost use mathlib.Core.List.{[]};
-ghost use Prim.Native.Nat.{ℕ, _+_, _-_, _*_, _^_, _≤_, _<_};
+ghost use Prim.Native.Nat.{_+_, _-_, _*_, _≤_, _<_};
 ghost use lib.ListN.{length};
 ghost use Rattle.refusal.specs.Answer.{accepted, verdictOf};
 ghost use Rattle.btree_v2_collect.specs.Walk.{oneLeaf, oneInternal, oneInternalRecord, putRecords, ownRecordRun};
@@ -89,7 +88,12 @@ fn collect_leaf(
     requires { ⌜ (0 < sizes .geometry .«record_size») × (Within sizes (now tally) (now output)) ⌝ }
     ensures { λ r. ⌜ Walked sizes (nodeWalk (now (file .entry)) (sizes .geometry) 0 (node .address) (node .records) (countsOf (now (tally .entry))) (now (output .entry))) r (now (tally .exit)) (now (output .exit)) ⌝ }
 {
-    let verdict = btree_v2_leaf::check_leaf(file, node.address, node.records, sizes.geometry.record_size);
+    let verdict = btree_v2_leaf::check_leaf(
+        file,
+        node.address,
+        node.records,
+        sizes.geometry.record_size,
+    );
     let Verdict::Accepted = verdict else {
         return verdict;
     };
@@ -317,11 +321,7 @@ fn collect_root(file: &[u8], header: BTreeV2Header, output: &mut [u8]) -> Collec
 }
 
 // Collects the records of the tree that a header describes into the front of the output.
-pub fn collect_btree_v2_records(
-    file: &[u8],
-    header: BTreeV2Header,
-    output: &mut [u8],
-) -> Collected
+pub fn collect_btree_v2_records(file: &[u8], header: BTreeV2Header, output: &mut [u8]) -> Collected
     ensures { λ r. ⌜ Ends (collected (now (file .entry)) header (now (output .entry))) r (now (output .exit)) ⌝ }
 {
     let tally = Tally {

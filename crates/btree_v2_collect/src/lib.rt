@@ -1,6 +1,5 @@
 // Collecting the records of a version 2 B-tree.
 
-ghost use mathlib.Core.Path.{_≡_};
 use refusal::Verdict;
 
 pub mod collect;
