@@ -66,10 +66,6 @@ module _ (w : ℕ) (narrow : w < 1024) where
 abbrev PointerSized : Sizes → ℕ → ℕ → Type 0
 PointerSized z u w = (w ≡ childPointerSize (z .geometry) (z .«count_size») u) × (w < 1024)
 
-pub pointer-size-is : (z : Sizes) (u : ℕ) → z .geometry .«offset_size» < 2 ^ 8 → z .«count_size» < 2 ^ 8 → u < 2 ^ 8
-    → PointerSized z u (z .geometry .«offset_size» + z .«count_size» + u)
-pointer-size-is z u h k l = (refl, omega arith)
-
 -- `check_internal`: the front, and the body where the front is accepted.
 module _ (file : List ℕ) (z : Sizes) (u : ℕ) (x : Node) (front : Verdict) (code : verdictOf front ≡ frontTest file internalSignature (x .address)) where
   pub internal-front : (q : Refusal) → front ≡ Refused q → verdictOf front ≡ internalTest file (z .geometry .«record_size») (z .geometry .«offset_size») (childPointerSize (z .geometry) (z .«count_size») u) (x .address) (x .records)
