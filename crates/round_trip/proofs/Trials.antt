@@ -22,7 +22,7 @@ use Rattle.read_checks.specs.Tests.{same, frontTest, checksumTest}
 use Rattle.btree_v2_header.specs.declared.BTreeV2Header.{BTreeV2Header}
 use Rattle.btree_v2_header.specs.Header.{headerAt, parsed}
 use Rattle.btree_v2_leaf.specs.Leaf.{leafBody, leafTest}
-use Rattle.btree_v2_collect.specs.Collect.{collectTests,, collected, runCells, runOutput}
+use Rattle.btree_v2_collect.specs.Collect.{collectTests, collected, runCells, runOutput}
 
 -- w bytes as a hexadecimal number shows them, and nodes of w bytes one after another.
 dump : ℕ → ℕ → List ℕ
