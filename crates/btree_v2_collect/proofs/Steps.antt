@@ -1,7 +1,7 @@
 -- The collector's steps, one after another: one law for each way out of them, in the forms in which the code has it.
 use mathlib.Core.Path.{_≡_, refl, sym, ap, fun-ext, _∙_}
 use mathlib.Core.List.{List}
-use Prim.Native.Nat.{ℕ, zero, suc, _+_, _-_, _*_, _/_, _<_}
+use Prim.Native.Nat.{ℕ, zero, suc, _+_, _-_, _*_, _/_, _≤_, _<_}
 use native.Mathlib.Nat.{zero-add, add-zero, suc-add}
 use native.Mathlib.Omega.{arith}
 use lib.ListN.{getD}
@@ -13,7 +13,7 @@ use Rattle.refusal.specs.declared.Verdict.{Verdict}
 use Rattle.refusal.specs.declared.Verdict.the-variants.{Accepted, Refused}
 use Rattle.btree_v2_internal.specs.declared.Sizes.{Sizes}
 use Rattle.btree_v2_internal.specs.declared.Node.{Node}
-use Rattle.btree_v2_collect.specs.Collecting.{countsOf, runOf, saturatedCounts, saturatedRun, Readable, Within, ChildAt, ChildrenLeft, Walked}
+use Rattle.btree_v2_collect.specs.Collecting.{countsOf, runOf, saturatedCounts, saturatedRun, Readable, Within, NodeThere, ChildAt, ChildrenLeft, Walked}
 use Rattle.refusal.proofs.Answers.{refused-is}
 use Rattle.btree_v2_collect.proofs.Holding.{Alike, from-saturated, records-saturated, alike-after, count-alike, puts-alike, after-alike, own-record-alike, children-alike}
 use Rattle.btree_v2_collect.proofs.Walking.{Step}
@@ -102,6 +102,9 @@ falling depth left = depth * 65537 + left
 pub first-falls : (k d left : ℕ) → falling d left ≡ k → 0 < left → falling d (left / 2) < k
 first-falls k d left e some = omega arith
 
+pub second-falls : (k d left : ℕ) → falling d left ≡ k → (left ≡ 1 → ⊥) → 0 < left → falling d (left - left / 2) < k
+second-falls k d left e more some = omega arith
+
 -- The first half of the children is asked as all of them are.
 pub first-asked : (file : List ℕ) (z : Sizes) (l : List ℕ) (d a n i left : ℕ) (t o : List ℕ) → ChildrenLeft file z l d a n i left t o
     → (left ≡ 1 → ⊥) → ChildrenLeft file z l d a n i (left / 2) t o
@@ -113,6 +116,12 @@ first-asked file z l d a n i left t o h more =
       some = omega (arith, h .some);
       within = h .within;
     }
+
+-- And so is the second half, after the record between.
+pub second-asked : (file : List ℕ) (z : Sizes) (l : List ℕ) (d a n i left : ℕ) (t o : List ℕ) → Readable z l d → NodeThere file (z .geometry) a n
+    → i + left ≤ n + 1 → 0 < left → (left ≡ 1 → ⊥) → Within z t o → ChildrenLeft file z l d a n (i + left / 2) (left - left / 2) t o
+second-asked file z l d a n i left t o readable there among some more within =
+    record { readable = readable; there = there; among = omega arith; some = omega arith; within = within }
 
 -- The walk by any tests; what the code tells of a test is its verdict.
 module _ (file : List ℕ) (z : Sizes) (tests : Tests) where
@@ -165,18 +174,18 @@ module _ (file : List ℕ) (z : Sizes) (tests : Tests) where
             (rw f at walked)
 
   -- Children of an internal node, `left` of them from child i on.
-  module _ (d a n i left : ℕ) (t o : List ℕ) where
+  module _ (d a n i left : ℕ) (c : Counts) (o : List ℕ) where
     abbrev Reads : Verdict → List ℕ → List ℕ → Type 0
-    Reads = Walked z (children d a n (left - 1) i (countsOf t) o)
+    Reads = Walked z (children d a n (left - 1) i c o)
 
     -- One, and the test after it: by its pointer's place and the records that it put out.
     module _ (child : Node) (pointer : ChildAt file (z .geometry) d a n i child) (one : left ≡ 1) (v : Verdict) (t1 o1 : List ℕ)
-        (walked : Walked z (nodeRun file (z .geometry) tests d (child .address) (child .records) (countsOf t) o) v t1 o1) where
+        (walked : Walked z (nodeRun file (z .geometry) tests d (child .address) (child .records) c o) v t1 o1) where
       abbrev after-child : Step
-      after-child c o = ifPassed (tests .child d (pointerTo (z .geometry) d a n i) (c .records - getD t 0 0)) c o (fine c o)
+      after-child c1 o1 = ifPassed (tests .child d (pointerTo (z .geometry) d a n i) (c1 .records - c .records)) c1 o1 (fine c1 o1)
 
-      child-is : andThen (nodeRun file (z .geometry) tests d (child .address) (child .records) (countsOf t) o) after-child
-          ≡ children d a n (left - 1) i (countsOf t) o
+      child-is : andThen (nodeRun file (z .geometry) tests d (child .address) (child .records) c o) after-child
+          ≡ children d a n (left - 1) i c o
       unfolding childrenRun childRun
       child-is = rw (pointer .address, pointer .records, one)
 
@@ -184,7 +193,7 @@ module _ (file : List ℕ) (z : Sizes) (tests : Tests) where
       child-stops q e = walked-as (ap saturatedRun child-is) (hand-up (after-alike tests d _ _) walked q e)
 
       pub child-tested : v ≡ Accepted → (w : Verdict)
-          → verdictOf w ≡ tests .child d (pointerTo (z .geometry) d a n i) (getD t1 0 0 - getD t 0 0) → Reads w t1 o1
+          → verdictOf w ≡ tests .child d (pointerTo (z .geometry) d a n i) (getD t1 0 0 - c .records) → Reads w t1 o1
       child-tested e w code =
           record {
             ends = rw code (sym (go-on (after-alike tests d _ _) walked e)) ∙ ap saturatedRun child-is;
@@ -193,7 +202,7 @@ module _ (file : List ℕ) (z : Sizes) (tests : Tests) where
 
     -- More: the first half, the record between and the second half.
     abbrev first-half : Run
-    first-half = children d a n (left / 2 - 1) i (countsOf t) o
+    first-half = children d a n (left / 2 - 1) i c o
 
     abbrev record-between : Counts → List ℕ → Run
     record-between = ownRecordRun file (z .geometry) a (i + left / 2 - 1)
@@ -202,12 +211,12 @@ module _ (file : List ℕ) (z : Sizes) (tests : Tests) where
     second-half = children d a n (left - left / 2 - 1) (i + left / 2)
 
     halves : 0 < left → (left ≡ 1 → ⊥)
-        → andThen (andThen first-half record-between) second-half ≡ children d a n (left - 1) i (countsOf t) o
+        → andThen (andThen first-half record-between) second-half ≡ children d a n (left - 1) i c o
     halves some more =
         let e : left - 1 ≡ left / 2 - 1 + suc (left - left / 2 - 1) = omega arith in
         let f : i + left / 2 - 1 ≡ i + (left / 2 - 1) = omega arith in
         let g : i + left / 2 ≡ i + (left / 2 - 1) + 1 = omega arith in
-        rw (e, f, g) (sym (children-split file (z .geometry) tests d a n (nodeRun file (z .geometry) tests d) (left / 2 - 1) (left - left / 2 - 1) i (countsOf t) o))
+        rw (e, f, g) (sym (children-split file (z .geometry) tests d a n (nodeRun file (z .geometry) tests d) (left / 2 - 1) (left - left / 2 - 1) i c o))
 
     record-alike : Alike record-between
     record-alike = own-record-alike file (z .geometry) a (i + left / 2 - 1)
@@ -221,21 +230,18 @@ module _ (file : List ℕ) (z : Sizes) (tests : Tests) where
         walked-as (ap saturatedRun (halves some more))
         (hand-up half-alike (hand-up record-alike first q e) q e)
 
-    module _ (l : List ℕ) where
-      -- Children are left after x, a part of their walk that is accepted.
-      pub record PartRead (x : Run) : Type 0 where
-        pub asked : ChildrenLeft file z l d a n i left t o
-        pub more : left ≡ 1 → ⊥
-        pub tally : List ℕ
-        pub output : List ℕ
-        pub walked : Walked z x Accepted tally output
+    -- After the first half, the record between.
+    module _ (some : 0 < left) (more : left ≡ 1 → ⊥) (v : Verdict) (t1 o1 : List ℕ) (first : Walked z first-half v t1 o1) (read : v ≡ Accepted)
+        (w : Verdict) (t2 o2 : List ℕ) (put : Walked z (record-between (countsOf t1) o1) w t2 o2) where
+      two : Walked z (andThen first-half record-between) w t2 o2
+      two = walked-as (sym (go-on record-alike first read)) put
 
-      -- The first half is read; and the record between is put out.
-      abbrev pub FirstRead : Type 0
-      FirstRead = PartRead first-half
+      pub record-stops : (q : Refusal) → w ≡ Refused q → Reads w t2 o2
+      record-stops q e = walked-as (ap saturatedRun (halves some more)) (hand-up half-alike two q e)
 
-      abbrev pub RecordPut : Type 0
-      RecordPut = PartRead (andThen first-half record-between)
+      -- And the second half.
+      pub second-reads : w ≡ Accepted → (u : Verdict) (t3 o3 : List ℕ) → Walked z (second-half (countsOf t2) o2) u t3 o3 → Reads u t3 o3
+      second-reads e u t3 o3 = walked-as (sym (go-on half-alike two e) ∙ ap saturatedRun (halves some more))
 
 -- Record i of the internal node at a: one record put out, and counted.
 module _ (file : List ℕ) (z : Sizes) (a i : ℕ) (t o : List ℕ) (v : Verdict) (t1 o1 : List ℕ)
@@ -257,50 +263,6 @@ module _ (file : List ℕ) (z : Sizes) (a i : ℕ) (t o : List ℕ) (v : Verdict
         ends = ap (λ c. fine c o1) counts ∙ sym (sym (ap saturatedRun own-record-is) ∙ go-on count-alike put e);
         within = rw (records-saturated (oneInternalRecord (countsOf t1)) (countsOf t2) counts) (put .within);
       }
-
--- From where the first half is read on.
-module _ {file : List ℕ} {z : Sizes} {tests : Tests} {d a n i left : ℕ} {t o l : List ℕ} where
-  -- Record j, put out after the first half, is the one between.
-  module _ (first : FirstRead file z tests d a n i left t o l) (j : ℕ) (w : Verdict) (t2 o2 : List ℕ)
-      (put : Walked z (ownRecordRun file (z .geometry) a j (countsOf (first .tally)) (first .output)) w t2 o2) (between : j ≡ i + left / 2 - 1) where
-    pub two : Walked z (andThen (first-half file z tests d a n i left t o) (record-between file z tests d a n i left t o)) w t2 o2
-    two = walked-as (sym (go-on (record-alike file z tests d a n i left t o) (first .walked) refl)) (rw between at put)
-
-    pub record-stops : (q : Refusal) → w ≡ Refused q → Reads file z tests d a n i left t o w t2 o2
-    record-stops q e =
-        walked-as (ap saturatedRun (halves file z tests d a n i left t o (first .asked .some) (first .more)))
-        (hand-up (half-alike file z tests d a n i left t o) two q e)
-
-    abbrev pub record-put : w ≡ Accepted → RecordPut file z tests d a n i left t o l
-    record-put e =
-        record {
-          asked = first .asked;
-          more = first .more;
-          tally = t2;
-          output = o2;
-          walked = walked-accepted z _ w t2 o2 e two;
-        }
-
-  module _ (put : RecordPut file z tests d a n i left t o l) where
-    pub second-asked : ChildrenLeft file z l d a n (i + left / 2) (left - left / 2) (put .tally) (put .output)
-    second-asked =
-        record {
-          readable = put .asked .readable;
-          there = put .asked .there;
-          among = omega (arith, put .asked .among);
-          some = omega (arith, put .asked .some, put .more);
-          within = put .walked .within;
-        }
-
-    pub second-falls : {k : ℕ} → falling d left ≡ k → falling d (left - left / 2) < k
-    second-falls e = omega (arith, put .asked .some, put .more)
-
-    pub second-reads : (u : Verdict) (t3 o3 : List ℕ)
-        → Walked z (second-half file z tests d a n i left t o (countsOf (put .tally)) (put .output)) u t3 o3 → Reads file z tests d a n i left t o u t3 o3
-    second-reads u t3 o3 =
-        walked-as
-        (sym (go-on (half-alike file z tests d a n i left t o) (put .walked) refl)
-        ∙ ap saturatedRun (halves file z tests d a n i left t o (put .asked .some) (put .more)))
 
 -- A level below.
 pub readable-under : (z : Sizes) (l : List ℕ) (d : ℕ) → Readable z l d → Readable z l (d - 1)

@@ -63,7 +63,7 @@ putBytes rs b c o =
     (fine (oneRecord c) (stored o (c .records * rs) b))
 
 module _ (g : Geometry) where
-  -- The place of record i of the node at a.
+  -- The place of record i of the node at a, where i records end.
   abbrev pub recordPlace : ℕ → ℕ → ℕ
   recordPlace a i = a + prefixSize + i * g .«record_size»
 

@@ -97,7 +97,7 @@ fn collect_leaf(
     let Verdict::Accepted = verdict else {
         return verdict;
     };
-    let from = node.address as usize + 6;
+    let from = (node.address + format::PREFIX_SIZE) as usize;
     one_leaf(tally);
     put_records(file, sizes, from, node.records, tally, output)
 }
@@ -146,7 +146,8 @@ fn put_own_record(
     requires { ⌜ (i < node .records) × (0 < sizes .geometry .«record_size») × (Within sizes (now tally) (now output)) ⌝ }
     ensures { λ r. ⌜ Walked sizes (ownRecordRun (now (file .entry)) (sizes .geometry) (node .address) i (countsOf (now (tally .entry))) (now (output .entry))) r (now (tally .exit)) (now (output .exit)) ⌝ }
 {
-    let from = node.address as usize + 6 + i * (sizes.geometry.record_size as usize);
+    let from = (node.address + format::PREFIX_SIZE) as usize
+        + i * (sizes.geometry.record_size as usize);
     let verdict = put_records(file, sizes, from, 1, tally, output);
     let Verdict::Accepted = verdict else {
         return verdict;

@@ -6,6 +6,7 @@ use lib.ListN.{length}
 use Rattle.numbers.specs.Numbers.{pick, part}
 use Rattle.refusal.specs.Answer.{Answer, accepted, refused, orElse, onAccepted, ifAccepted}
 use Rattle.numbers.specs.Places.{over}
+use Rattle.format.specs.Bytes.{prefixSize}
 use Rattle.btree_v2_leaf.specs.Leaf.{leafTest}
 
 -- The tests of a look at the leaf at a with n records of rs bytes: 8, then the leaf's own.
@@ -14,7 +15,7 @@ lookTest file rs a n = orElse (ltb 0 rs) (refused 8 []) (leafTest file rs a n)
 
 -- The bytes that are looked at: the leaf's records, or none where a test refused the leaf.
 abbrev pub bytesIf : Answer → List ℕ → ℕ → ℕ → ℕ → List ℕ
-bytesIf (accepted figures) file rs a n = part file (a + 6) (n * rs)
+bytesIf (accepted figures) file rs a n = part file (a + prefixSize) (n * rs)
 bytesIf (refused number values) file rs a n = []
 
 unfoldable pub lookBytes : List ℕ → ℕ → ℕ → ℕ → List ℕ

@@ -52,7 +52,11 @@ fn records_of<'a>(
         return &file[0..0];
     };
     let bytes = (count as u64) * (record_size as u64);
-    numbers::part(file, numbers::saturating_add(address, 6), bytes)
+    numbers::part(
+        file,
+        numbers::saturating_add(address, format::PREFIX_SIZE),
+        bytes,
+    )
 }
 
 // Record i of `count` records that stand end to end; empty where i is not below the count.

@@ -1,14 +1,12 @@
 -- The cycle of node step and child step, `collect_node` and `collect_children`: depth and children left make one falling number.
-use mathlib.Core.Path.{_≡_, refl}
 use Prim.Native.Nat.{ℕ, _<_}
 use native.Mathlib.Omega.{arith}
 use borrow.Author.Needs.{needs}
 use borrow.Fn.Kinds.{In}
 use borrow.Fn.PlainCycle.{Measures, is, falls, and}
-use Rattle.btree_v2_collect.specs.Collect.{collectTests}
 use Rattle.btree_v2_collect.proofs.Nodes.{node-there, none-after}
 use Rattle.btree_v2_collect.proofs.Steps.{node-leaf, node-stops, node-reads, internal-within, readable-under, walked-accepted}
-use Rattle.btree_v2_collect.proofs.Steps.{falling, child-stops, child-tested, first-falls, first-asked, first-stops, FirstRead, record-stops, record-put, RecordPut, second-falls, second-asked, second-reads}
+use Rattle.btree_v2_collect.proofs.Steps.{falling, child-stops, child-tested, first-falls, first-asked, first-stops, record-stops, second-falls, second-asked, second-reads}
 use Rattle.btree_v2_collect.proofs.collect.collect_children.Reads as collect-children
 use Rattle.btree_v2_collect.proofs.collect.collect_children.Kinds as collect-children-kinds
 use Rattle.btree_v2_collect.proofs.collect.+collect_children+collect_node.Lts-collect_children as collect-children-lts
@@ -42,54 +40,11 @@ collect-node-at t = and 4 collect-node-kinds.ps (is 4 collect-node-kinds.ps μ-c
 abbrev collect-node-below : ℕ → In 4 collect-node-kinds.ps
 collect-node-below t = and 4 collect-node-kinds.ps (falls 4 collect-node-kinds.ps _<_ μ-collect-node t) collect-node.Pre
 
--- What is known at places of the child step: where one child is left, where the first half is read, and where the record between is put out.
+-- What the functions that the child step calls ask and tell.
 module _ (t : ℕ) where
   abbrev claims : collect-children-lts.Claims
   claims =
       (child-of-reads.Asked, child-of-reads.Learnt, collect-node-below t, collect-node.Post, collect-children-below t, collect-children.Post, own-record-reads.Asked, own-record-reads.Learnt)
-
-  abbrev Start : Type 0
-  Start = collect-children-lts.Start claims (collect-children-at t) collect-children.Post
-
-  abbrev OneLeft : Type 0
-  OneLeft = collect-children-lts.Then1 claims (collect-children-at t) collect-children.Post
-
-  abbrev AfterFirst : Type 0
-  AfterFirst = collect-children-lts.After-enum-told3 claims (collect-children-at t) collect-children.Post
-
-  abbrev AfterRecord : Type 0
-  AfterRecord = collect-children-lts.After-enum-told5 claims (collect-children-at t) collect-children.Post
-
-  one : (c : OneLeft) → c .before .before .before .args .left ≡ 1
-  one c = c .if1 .taken
-
-  first-asks : collect-children-lts.Need-collect-children-requires claims (collect-children-at t) collect-children.Post
-  first-asks c κs =
-      let start = c .before .before .before .before .before .pre in
-      (first-falls _ _ _ (start .0) (start .1 .some), search first-asked)
-
-  abbrev entry : AfterFirst → Start
-  entry c = c .before .before .before .before .before .before .before .before .before .before
-
-  abbrev first-of : AfterRecord → AfterFirst
-  first-of c = c .before .before .before .before .before .before .before
-
-  abbrev first : (c : AfterFirst)
-      → let x = entry c .args in
-      FirstRead (x .file .now) (x .sizes) (collectTests (x .file .now) (x .sizes .geometry)) (x .under) (x .address) (x .records) (x .i) (x .left) (x .tally .now) (x .output .now) (x .total-sizes .now)
-  first c =
-      record {
-        asked = entry c .pre .1;
-        more = c .before .before .before .before .before .before .before .if1 .left;
-        tally = _;
-        output = _;
-        walked = walked-accepted _ _ _ _ _ (c .enum-told3 .given .1) (c .before .before .before .before .collect-children .ensures);
-      }
-
-  abbrev put : (c : AfterRecord)
-      → let x = entry (first-of c) .args in
-      RecordPut (x .file .now) (x .sizes) (collectTests (x .file .now) (x .sizes .geometry)) (x .under) (x .address) (x .records) (x .i) (x .left) (x .tally .now) (x .output .now) (x .total-sizes .now)
-  put c = record-put (first (first-of c)) _ _ _ _ (c .before .before .before .before .put-own-record .ensures) refl (c .enum-told5 .given .1)
 
 pub +collect-children+collect-node-spec : {M : Type 1} → statement M
 +collect-children+collect-node-spec =
@@ -105,10 +60,10 @@ pub +collect-children+collect-node-spec : {M : Type 1} → statement M
     (λ c. search needs)
     (λ c. search needs)
     (λ c. search needs)
-    (λ c. search (child-stops, one t (c .before .before .before .before .before .before .before .before)))
+    (λ c. search child-stops)
     (λ c. search needs)
-    (λ c. search (child-tested, none-after, one t (c .before .before .before .before .before .before .before .before)))
-    (first-asks t)
+    (λ c. search (child-tested, none-after))
+    (λ c κs. (search first-falls, search first-asked))
     (λ c. search needs)
     (λ c. search needs)
     (λ c. search needs)
@@ -119,16 +74,38 @@ pub +collect-children+collect-node-spec : {M : Type 1} → statement M
     (λ c. search needs)
     (λ c. search needs)
     (λ c. search needs)
-    (λ c. record-stops (first t (c .before .before .before .before .before .before .before)) _ _ _ _ (c .before .before .before .before .put-own-record .ensures) refl _ (c .enum-told6 .given .1))
+    (λ c.
+    let put = c .before .before .before .before in
+    let first = put .before .before .before .before .before .before .before in
+    record-stops _ _ _ _ _ _ _ _ _ _ (search needs) (search needs) _ _ _ (first .collect-children .ensures) (search needs) _ _ _ (put .put-own-record .ensures) _ (c .enum-told6 .given .1))
     (λ c. search needs)
     (λ c. search needs)
-    (λ c κs. let p = put t (c .before .before) in (second-falls p (entry t (first-of t (c .before .before)) .pre .0), second-asked p))
+    (λ c κs. (search second-falls, search second-asked))
     (λ c. search needs)
     (λ c. search needs)
     (λ c. search needs)
-    (λ c. let p = put t (c .before .before .before .before .before .before .before) in second-reads p _ _ _ (c .before .before .before .before .collect-children2 .ensures))
+    (λ c.
+    let second = c .before .before .before .before in
+    let kept = second .before .before .before in
+    let put = kept .before .before .before .before in
+    let read = put .before .before .before in
+    let first = read .before .before .before .before in
+    let halved = first .before .before .before in
+    let entry = halved .before .before .before in
+    second-reads _ _ _ _ _ _ _ _ _ _ (entry .pre .1 .some) (halved .if1 .left) _ _ _ (first .collect-children .ensures) (read .enum-told3 .given .1)
+    _ _ _ (put .put-own-record .ensures) (kept .enum-told5 .given .1) _ _ _ (second .collect-children2 .ensures))
     (λ c. search needs)
-    (λ c. let p = put t (c .before .before .before .before .before .before .before) in walked-accepted _ _ _ _ _ (c .enum-told7 .given .1) (second-reads p _ _ _ (c .before .before .before .before .collect-children2 .ensures))))
+    (λ c.
+    let second = c .before .before .before .before in
+    let kept = second .before .before .before in
+    let put = kept .before .before .before .before in
+    let read = put .before .before .before in
+    let first = read .before .before .before .before in
+    let halved = first .before .before .before in
+    let entry = halved .before .before .before in
+    walked-accepted _ _ _ _ _ (c .enum-told7 .given .1)
+    (second-reads _ _ _ _ _ _ _ _ _ _ (entry .pre .1 .some) (halved .if1 .left) _ _ _ (first .collect-children .ensures) (read .enum-told3 .given .1)
+    _ _ _ (put .put-own-record .ensures) (kept .enum-told5 .given .1) _ _ _ (second .collect-children2 .ensures))))
     (λ t. collect-node-lts.spec
     (collect-leaf-reads.Asked, collect-leaf-reads.Learnt, check-node-reads.Asked, check-node-reads.Learnt, one-internal-reads.Asked, one-internal-reads.Learnt, collect-children-below t, collect-children.Post)
     (collect-node-at t)
