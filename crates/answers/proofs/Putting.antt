@@ -13,6 +13,7 @@ use Rattle.plan.specs.Planned.{planAnswerOf}
 use Rattle.btree_v2_header.specs.declared.BTreeV2Header.{BTreeV2Header}
 use Rattle.btree_v2_header.specs.declared.HeaderAnswer.{HeaderAnswer}
 use Rattle.btree_v2_header.specs.declared.HeaderAnswer.the-variants as header
+use Rattle.btree_v2_header.specs.Header.{headerFigures}
 use Rattle.btree_v2_header.specs.Answers.{headerAnswerOf}
 use Rattle.btree_v2_leaf_view.specs.declared.RecordAnswer.{RecordAnswer}
 use Rattle.btree_v2_leaf_view.specs.declared.RecordAnswer.the-variants as copied
@@ -32,8 +33,7 @@ plan-refused cause e code = rw e (code-more cause 2 code)
 
 -- The header's fields, or its refusal.
 pub header-put : {p : HeaderAnswer} {h : BTreeV2Header} → p ≡ header.Parsed h
-    → 0 ∷ h .«tree_type» ∷ h .«node_size» ∷ h .«record_size» ∷ h .depth ∷ h .«root_node_address» ∷ h .«num_records_in_root» ∷ h .«total_records» ∷ []
-    ≡ cells 8 (headerAnswerOf p)
+    → 0 ∷ headerFigures h ≡ cells 8 (headerAnswerOf p)
 unfolding cells
 header-put e = rw e
 

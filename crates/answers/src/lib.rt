@@ -46,11 +46,12 @@ pub fn put_header(answer: &mut [u64; 8], parsed: HeaderAnswer)
 {
     match parsed {
         HeaderAnswer::Parsed(header) => {
+            let geometry = header.geometry;
             *answer = [
                 0,
                 header.tree_type as u64,
-                header.node_size as u64,
-                header.record_size as u64,
+                geometry.node_size as u64,
+                geometry.record_size as u64,
                 header.depth as u64,
                 header.root_node_address,
                 header.num_records_in_root as u64,

@@ -9,11 +9,12 @@ ghost use Rattle.write_checks.specs.Writing.{written, headerExit, imageExit};
 ghost use Rattle.btree_v2_header.specs.Header.{parsed};
 ghost use Rattle.btree_v2_collect.specs.Collect.{collected, runCells, runOutput};
 ghost use Rattle.btree_v2_leaf_view.specs.Look.{recordAnswer, recordExit};
-ghost use Rattle.btree_v2_write.specs.Call.{asked};
-ghost use Rattle.btree_v2.specs.Given.{given};
+ghost use Rattle.btree_v2.specs.Given.{sizes, asked, given};
 use btree_v2_collect::collect;
 use btree_v2_header::BTreeV2Header;
 use btree_v2_leaf_view::copy_leaf_record;
+use format::Request;
+use node_info::Geometry;
 use node_info::NodeInfo;
 use plan::BTreeV2Plan;
 
@@ -27,9 +28,14 @@ pub extern "C" fn btree_v2_node_info(
     depth: u16,
     answer: &mut [u64; 101],
 )
-    ensures { λ _. ⌜ now (answer .exit) ≡ cells 101 (tabled «node_size» «record_size» «offset_size» depth) ⌝ }
+    ensures { λ _. ⌜ now (answer .exit) ≡ cells 101 (tabled (sizes «node_size» «record_size» «offset_size») depth) ⌝ }
 {
-    let computed = NodeInfo::compute(node_size, record_size, offset_size, depth);
+    let geometry = Geometry {
+        node_size,
+        record_size,
+        offset_size,
+    };
+    let computed = NodeInfo::compute(geometry, depth);
     answers::put_node_info(answer, computed);
 }
 
@@ -42,9 +48,14 @@ pub extern "C" fn btree_v2_plan(
     offset_size: u8,
     answer: &mut [u64; 5],
 )
-    ensures { λ _. ⌜ now (answer .exit) ≡ cells 5 (planAnswer «record_count» «record_size» «node_size» «offset_size») ⌝ }
+    ensures { λ _. ⌜ now (answer .exit) ≡ cells 5 (planAnswer «record_count» (sizes «node_size» «record_size» «offset_size»)) ⌝ }
 {
-    let planned = BTreeV2Plan::new(record_count, record_size, node_size, offset_size);
+    let geometry = Geometry {
+        node_size,
+        record_size,
+        offset_size,
+    };
+    let planned = BTreeV2Plan::new(record_count, geometry);
     answers::put_plan(answer, planned);
 }
 
@@ -63,22 +74,23 @@ pub extern "C" fn btree_v2_write(
     image: &mut [u8],
     answer: &mut [u64; 5],
 )
-    ensures answered { λ _. ⌜ now (answer .exit) ≡ cells 5 (written (asked «tree_type» «record_count» «record_size» «node_size» «offset_size» «length_size» start) (now (records .entry)) (now (header .entry)) (now (image .entry))) ⌝ }
-    ensures headerLeft { λ _. ⌜ now (header .exit) ≡ headerExit (asked «tree_type» «record_count» «record_size» «node_size» «offset_size» «length_size» start) (now (records .entry)) (now (header .entry)) (now (image .entry)) ⌝ }
-    ensures imageLeft { λ _. ⌜ now (image .exit) ≡ imageExit (asked «tree_type» «record_count» «record_size» «node_size» «offset_size» «length_size» start) (now (records .entry)) (now (header .entry)) (now (image .entry)) ⌝ }
+    ensures answered { λ _. ⌜ now (answer .exit) ≡ cells 5 (written (asked «tree_type» «record_count» (sizes «node_size» «record_size» «offset_size») «length_size» start) (now (records .entry)) (now (header .entry)) (now (image .entry))) ⌝ }
+    ensures headerLeft { λ _. ⌜ now (header .exit) ≡ headerExit (asked «tree_type» «record_count» (sizes «node_size» «record_size» «offset_size») «length_size» start) (now (records .entry)) (now (header .entry)) (now (image .entry)) ⌝ }
+    ensures imageLeft { λ _. ⌜ now (image .exit) ≡ imageExit (asked «tree_type» «record_count» (sizes «node_size» «record_size» «offset_size») «length_size» start) (now (records .entry)) (now (header .entry)) (now (image .entry)) ⌝ }
 {
-    let written = btree_v2_write::write(
+    let geometry = Geometry {
+        node_size,
+        record_size,
+        offset_size,
+    };
+    let request = Request {
         tree_type,
         record_count,
-        record_size,
-        node_size,
-        offset_size,
+        geometry,
         length_size,
         start,
-        records,
-        header,
-        image,
-    );
+    };
+    let written = btree_v2_write::write(request, records, header, image);
     answers::put_plan(answer, written);
 }
 
@@ -113,19 +125,23 @@ pub extern "C" fn btree_v2_collect(
     output: &mut [u8],
     answer: &mut [u64; 7],
 )
-    ensures answered { λ _. ⌜ now (answer .exit) ≡ runCells (collected (now (file .entry)) (given «tree_type» «node_size» «record_size» depth «root_address» «root_records» «total_records») «offset_size» (now (output .entry))) ⌝ }
-    ensures outputLeft { λ _. ⌜ now (output .exit) ≡ runOutput (collected (now (file .entry)) (given «tree_type» «node_size» «record_size» depth «root_address» «root_records» «total_records») «offset_size» (now (output .entry))) ⌝ }
+    ensures answered { λ _. ⌜ now (answer .exit) ≡ runCells (collected (now (file .entry)) (given «tree_type» (sizes «node_size» «record_size» «offset_size») depth «root_address» «root_records» «total_records») (now (output .entry))) ⌝ }
+    ensures outputLeft { λ _. ⌜ now (output .exit) ≡ runOutput (collected (now (file .entry)) (given «tree_type» (sizes «node_size» «record_size» «offset_size») depth «root_address» «root_records» «total_records») (now (output .entry))) ⌝ }
 {
-    let header = BTreeV2Header {
-        tree_type,
+    let geometry = Geometry {
         node_size,
         record_size,
+        offset_size,
+    };
+    let header = BTreeV2Header {
+        tree_type,
+        geometry,
         depth,
         root_node_address: root_address,
         num_records_in_root: root_records,
         total_records,
     };
-    let collected = collect::collect_btree_v2_records(file, header, offset_size, output);
+    let collected = collect::collect_btree_v2_records(file, header, output);
     answers::put_collected(answer, collected);
 }
 

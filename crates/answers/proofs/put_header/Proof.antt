@@ -16,5 +16,5 @@ put-header-spec =
     (λ c. search needs)
     (λ c. search needs)
     (λ c κs. search needs)
-    (λ c. header-put (c .before .before .before .before .before .before .before .parsed .given .1))
-    (λ c. header-refused _ (c .before .before .before .parsed2 .given .1) (c .before .code .ensures)))
+    (λ c. search header-put)
+    (λ c. search header-refused))

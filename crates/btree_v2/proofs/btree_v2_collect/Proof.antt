@@ -11,4 +11,6 @@ btree-v2-collect-spec =
     (λ c κs. search needs)
     (λ c κs. search needs)
     (λ c. search needs)
-    (λ c. (c .put-collected .ensures ∙ (c .before .before .before .before .collect-btree-v2-records .ensures .0), (c .before .before .before .before .collect-btree-v2-records .ensures .1))))
+    (λ c.
+    let ended = c .before .before .before .before .collect-btree-v2-records .ensures in
+    (c .put-collected .ensures ∙ ended .0, ended .1)))

@@ -11,4 +11,4 @@ btree-v2-parse-spec =
     (tie.spec
     (λ c κs. search needs)
     (λ c κs. search needs)
-    (λ c. put-is (c .before .before .parse .ensures) refl (c .put-header .ensures)))
+    (λ c. put-is (c .before .before .parse .ensures .answer) refl (c .put-header .ensures)))

@@ -13,4 +13,6 @@ btree-v2-write-spec =
     (λ c κs. search needs)
     (λ c. search needs)
     (λ c. search needs)
-    (λ c. (put-is (c .before .before .before .before .before .before .write .ensures .answered) refl (c .put-plan .ensures), ((c .before .before .before .before .before .before .write .ensures .headerLeft), (c .before .before .before .before .before .before .write .ensures .imageLeft)))))
+    (λ c.
+    let wrote = c .before .before .before .before .before .before .write .ensures in
+    (put-is (wrote .answered) refl (c .put-plan .ensures), (wrote .headerLeft, wrote .imageLeft))))
