@@ -104,7 +104,7 @@ module _ {q : Request} {cs : ℕ} {most totals : List ℕ} {R I d n j r : ℕ} (
   length-images : (recs : List ℕ) → R ≡ length recs → length (images q recs d kids j r) ≡ sumOf (subtreeNodes q d) kids * q .geometry .«node_size»
   unfolding planTree size
   length-images recs same =
-            let trees = kidsOf (subtree q d) kids in
+      let trees = kidsOf (subtree q d) kids in
       let many = children-some (capacities q d) n in
       let room : (r + (sumKids (size d) trees + between trees)) * q .geometry .«record_size» ≤ length recs =
       rw (plan-size (capacities q) (suc d) n thick) (rw same at (ready .inList)) in

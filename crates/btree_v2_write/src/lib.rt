@@ -50,12 +50,7 @@ fn write_planned(
 }
 
 // Writes a tree of the records in the list `records`: its header and its nodes. A refused call changes neither output.
-pub fn write(
-    request: Request,
-    records: &[u8],
-    header: &mut [u8],
-    image: &mut [u8],
-) -> PlanAnswer
+pub fn write(request: Request, records: &[u8], header: &mut [u8], image: &mut [u8]) -> PlanAnswer
     ensures { λ r. ⌜ Wrote request (now (records .entry)) (now (header .entry)) (now (image .entry)) (planAnswerOf r) (now (header .exit)) (now (image .exit)) ⌝ }
 {
     let lengths = Lengths {

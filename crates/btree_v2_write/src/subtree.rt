@@ -39,7 +39,18 @@ fn write_subtree(
     let base = distributed.base as usize;
     let extra = distributed.extra as usize;
     let first = node::share(base, extra, 0);
-    let large = write_subtree(image, request, records, under, first, j, r, count_size, most, total_sizes);
+    let large = write_subtree(
+        image,
+        request,
+        records,
+        under,
+        first,
+        j,
+        r,
+        count_size,
+        most,
+        total_sizes,
+    );
     let mut small = Child {
         records: 0,
         total: 0,
@@ -50,7 +61,18 @@ fn write_subtree(
     let mut i = 1;
     while i <= kept {
         let m = node::share(base, extra, i);
-        small = write_subtree(image, request, records, under, m, next, next_record, count_size, most, total_sizes);
+        small = write_subtree(
+            image,
+            request,
+            records,
+            under,
+            m,
+            next,
+            next_record,
+            count_size,
+            most,
+            total_sizes,
+        );
         next += small.nodes;
         next_record = next_record + (small.total as usize) + 1;
         i += 1;
@@ -88,5 +110,16 @@ pub(crate) fn write_image(
     requires { ⌜ Ready request «count_size» (now most) (now «total_sizes») (length (now records)) (length (now image)) depth n 0 0 ⌝ }
     ensures { λ x. ⌜ SubtreeWritten request (now (records .entry)) (now (image .entry)) (now (image .exit)) depth n 0 0 x ⌝ }
 {
-    write_subtree(image, request, records, depth, n, 0, 0, count_size, most, total_sizes)
+    write_subtree(
+        image,
+        request,
+        records,
+        depth,
+        n,
+        0,
+        0,
+        count_size,
+        most,
+        total_sizes,
+    )
 }

@@ -11,6 +11,7 @@ use crate::tally::Tally;
 use btree_v2_collect::Collected;
 use btree_v2_collect::collect;
 use btree_v2_header::BTreeV2Header;
+use node_info::Geometry;
 
 // The seven numbers of the answer.
 fn numbers(collected: Collected) -> [u64; 7]
@@ -26,10 +27,14 @@ fn header(list: &[u64; 459], row: usize) -> BTreeV2Header
     requires { ⌜ row < 27 ⌝ }
 {
     let at = 17 * row;
-    BTreeV2Header {
-        tree_type: rows::byte(list[at + 1]),
+    let geometry = Geometry {
         node_size: rows::number32(list[at + 2]),
         record_size: rows::number16(list[at + 3]),
+        offset_size: rows::byte(list[at + 8]),
+    };
+    BTreeV2Header {
+        tree_type: rows::byte(list[at + 1]),
+        geometry,
         depth: rows::number16(list[at + 4]),
         root_node_address: list[at + 5],
         num_records_in_root: rows::number16(list[at + 6]),
@@ -42,8 +47,7 @@ fn leaves(list: &[u64; 459], row: usize, file: &[u8], output: &mut [u8], due: &[
     requires { ⌜ row < 27 ⌝ }
 {
     let at = 17 * row;
-    let offset_size = rows::byte(list[at + 8]);
-    let collected = collect::collect_btree_v2_records(file, header(list, row), offset_size, output);
+    let collected = collect::collect_btree_v2_records(file, header(list, row), output);
     let found = numbers(collected);
     if !rows::stand_at(list, at + 10, &found) {
         return false;
@@ -93,17 +97,21 @@ pub(crate) fn stored() -> Tally
 
 // Whether collecting from a file that is one leaf of one record of 8 bytes has these numbers and this output.
 fn leaf(file: &[u8], due: [u64; 7], record: &[u8]) -> bool {
-    let header = BTreeV2Header {
-        tree_type: 5,
+    let geometry = Geometry {
         node_size: 40,
         record_size: 8,
+        offset_size: 8,
+    };
+    let header = BTreeV2Header {
+        tree_type: 5,
+        geometry,
         depth: 0,
         root_node_address: 0,
         num_records_in_root: 1,
         total_records: 1,
     };
     let mut output = [MARK; 8];
-    let collected = collect::collect_btree_v2_records(file, header, 8, &mut output);
+    let collected = collect::collect_btree_v2_records(file, header, &mut output);
     let found = numbers(collected);
     if !rows::stand_at(&due, 0, &found) {
         return false;

@@ -7,6 +7,8 @@ use crate::image_answers::IMAGE_ROWS;
 use crate::rows;
 use crate::rows::MARK;
 use crate::tally::Tally;
+use format::Request;
+use node_info::Geometry;
 
 // The records of a row with so many: byte i is (7 * i + 13 * count + 1) mod 256.
 fn records(count: u64) -> [u8; 512]
@@ -37,18 +39,19 @@ fn write(list: &[u64; 280], row: usize, header: &mut [u8], image: &mut [u8]) -> 
     let record_size = rows::number16(list[at + 2]);
     let bytes = records(count);
     let n = records_length(count, record_size);
-    let answer = btree_v2_write::write(
-        rows::byte(list[at]),
-        count,
+    let geometry = Geometry {
+        node_size: rows::number32(list[at + 3]),
         record_size,
-        rows::number32(list[at + 3]),
-        rows::byte(list[at + 4]),
-        rows::byte(list[at + 5]),
-        list[at + 6],
-        &bytes[..n],
-        header,
-        image,
-    );
+        offset_size: rows::byte(list[at + 4]),
+    };
+    let request = Request {
+        tree_type: rows::byte(list[at]),
+        record_count: count,
+        geometry,
+        length_size: rows::byte(list[at + 5]),
+        start: list[at + 6],
+    };
+    let answer = btree_v2_write::write(request, &bytes[..n], header, image);
     rows::of_plan(answer)
 }
 
@@ -123,7 +126,19 @@ fn from(start: u64) -> [u64; 5]
     let records = [0; 32];
     let mut header = [MARK; 26];
     let mut image = [MARK; 120];
-    let answer = btree_v2_write::write(5, 4, 8, 40, 2, 2, start, &records, &mut header, &mut image);
+    let geometry = Geometry {
+        node_size: 40,
+        record_size: 8,
+        offset_size: 2,
+    };
+    let request = Request {
+        tree_type: 5,
+        record_count: 4,
+        geometry,
+        length_size: 2,
+        start,
+    };
+    let answer = btree_v2_write::write(request, &records, &mut header, &mut image);
     rows::of_plan(answer)
 }
 
@@ -135,19 +150,19 @@ fn counted(count: usize) -> [u64; 5]
     let records = [0; 65536];
     let mut header = [MARK; 32];
     let mut image = [MARK; 81920];
-    let n = count as u64;
-    let answer = btree_v2_write::write(
-        5,
-        n,
-        1,
-        512,
-        8,
-        2,
-        0,
-        &records[..count],
-        &mut header,
-        &mut image,
-    );
+    let geometry = Geometry {
+        node_size: 512,
+        record_size: 1,
+        offset_size: 8,
+    };
+    let request = Request {
+        tree_type: 5,
+        record_count: count as u64,
+        geometry,
+        length_size: 2,
+        start: 0,
+    };
+    let answer = btree_v2_write::write(request, &records[..count], &mut header, &mut image);
     rows::of_plan(answer)
 }
 
