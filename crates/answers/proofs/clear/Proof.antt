@@ -18,10 +18,7 @@ clear-spec =
     Inv-loop
     μ-loop
     (λ c. cleared-start (c .args .numbers .now))
-    (λ c. search needs)
-    (λ c. search needs)
-    (λ c. search needs)
-    (λ c. search needs)
+    (λ c. search needs) (λ c. search needs) (λ c. search needs) (λ c. search needs)
     (λ c. cleared-turn _ _ _ (c .before .loop .inv) (c .loop-test .taken))
     (λ c. search needs)
     (λ c. cleared-end _ _ _ (c .before .loop .inv) (c .loop-test .left)))

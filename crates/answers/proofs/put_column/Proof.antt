@@ -19,13 +19,8 @@ put-column-spec =
     Inv-loop
     μ-loop
     (λ c. copied-start (c .args .answer .now) (c .args .at) (c .args .column .now))
-    (λ c. search needs)
-    (λ c. search needs)
-    (λ c. search needs)
-    (λ c. search needs)
-    (λ c. search needs)
-    (λ c. search needs)
-    (λ c. search needs)
+    (λ c. search needs) (λ c. search needs) (λ c. search needs) (λ c. search needs) (λ c. search needs)
+    (λ c. search needs) (λ c. search needs)
     (λ c. copied-turn _ _ _ _ _ (c .before .before .loop .inv) (c .before .before .before .pre) (c .before .loop-test .taken))
     (λ c. search needs)
     (λ c. copied-end _ _ _ _ _ (c .before .loop .inv) (c .loop-test .left)))

@@ -8,9 +8,6 @@ pub put-plan-spec : {M : Type 1} → statement M
 put-plan-spec =
     tie.close
     (tie.spec
-    (λ c. search needs)
-    (λ c. search needs)
-    (λ c. search needs)
-    (λ c κs. search needs)
+    (λ c. search needs) (λ c. search needs) (λ c. search needs) (λ c κs. search needs)
     (λ c. plan-put (c .before .before .before .planned .given .1))
     (λ c. plan-refused _ (c .before .before .before .planned2 .given .1) (c .before .code .ensures)))

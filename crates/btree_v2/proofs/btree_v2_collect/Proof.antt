@@ -8,9 +8,7 @@ pub btree-v2-collect-spec : {M : Type 1} → statement M
 btree-v2-collect-spec =
     tie.close
     (tie.spec
-    (λ c κs. search needs)
-    (λ c κs. search needs)
-    (λ c. search needs)
+    (λ c κs. search needs) (λ c κs. search needs) (λ c. search needs)
     (λ c.
     let ended = c .before .before .before .before .collect-btree-v2-records .ensures in
     (c .put-collected .ensures ∙ ended .0, ended .1)))

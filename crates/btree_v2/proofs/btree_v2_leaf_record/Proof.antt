@@ -9,7 +9,5 @@ pub btree-v2-leaf-record-spec : {M : Type 1} → statement M
 btree-v2-leaf-record-spec =
     tie.close
     (tie.spec
-    (λ c κs. search needs)
-    (λ c κs. search needs)
-    (λ c. search needs)
+    (λ c κs. search needs) (λ c κs. search needs) (λ c. search needs)
     (λ c. let copy = c .before .before .before .before .copy-leaf-record .ensures in (put-is (copy .0) refl (c .put-record .ensures), copy .1)))

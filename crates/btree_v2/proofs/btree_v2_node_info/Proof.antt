@@ -9,6 +9,5 @@ pub btree-v2-node-info-spec : {M : Type 1} → statement M
 btree-v2-node-info-spec =
     tie.close
     (tie.spec
-    (λ c κs. search needs)
-    (λ c κs. search needs)
+    (λ c κs. search needs) (λ c κs. search needs)
     (λ c. put-is (c .before .before .compute .ensures .0) refl (c .put-node-info .ensures)))

@@ -9,6 +9,5 @@ pub btree-v2-parse-spec : {M : Type 1} → statement M
 btree-v2-parse-spec =
     tie.close
     (tie.spec
-    (λ c κs. search needs)
-    (λ c κs. search needs)
+    (λ c κs. search needs) (λ c κs. search needs)
     (λ c. put-is (c .before .before .parse .ensures .answer) refl (c .put-header .ensures)))

@@ -9,10 +9,7 @@ pub btree-v2-write-spec : {M : Type 1} → statement M
 btree-v2-write-spec =
     tie.close
     (tie.spec
-    (λ c κs. search needs)
-    (λ c κs. search needs)
-    (λ c. search needs)
-    (λ c. search needs)
+    (λ c κs. search needs) (λ c κs. search needs) (λ c. search needs) (λ c. search needs)
     (λ c.
     let wrote = c .before .before .before .before .before .before .write .ensures in
     (put-is (wrote .answered) refl (c .put-plan .ensures), (wrote .headerLeft, wrote .imageLeft))))

@@ -8,9 +8,7 @@ pub check-internal-spec : {M : Type 1} → statement M
 check-internal-spec =
     tie.close
     (tie.spec
-    (λ c κs. search needs)
-    (λ c. search needs)
-    (λ c. search needs)
+    (λ c κs. search needs) (λ c. search needs) (λ c. search needs)
     (λ c. search internal-front)
     (λ c κs. search needs)
     (λ c. search internal-body))

@@ -9,19 +9,12 @@ pub read-pointer-spec : {M : Type 1} → statement M
 read-pointer-spec =
     tie.close
     (tie.spec
-    (λ c. search needs)
-    (λ c. search needs)
+    (λ c. search needs) (λ c. search needs)
     (λ c. search product-fits)
     (λ c. search records-end-fits)
     (λ c κs. search needs)
     (λ c. search pointers-before-fit)
     (λ c. search before-fits)
-    (λ c κs. search needs)
-    (λ c. search needs)
-    (λ c κs. search needs)
-    (λ c. search needs)
-    (λ c κs. search needs)
-    (λ c. search needs)
-    (λ c κs. search needs)
-    (λ c. search needs)
+    (λ c κs. search needs) (λ c. search needs) (λ c κs. search needs) (λ c. search needs) (λ c κs. search needs)
+    (λ c. search needs) (λ c κs. search needs) (λ c. search needs)
     (λ c. (search address-is, search records-is)))

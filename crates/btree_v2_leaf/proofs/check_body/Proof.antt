@@ -12,9 +12,7 @@ check-body-spec =
     (tie.spec
     (λ c. search product-fits)
     (λ c. search records-end-fits)
-    (λ c κs. search needs)
-    (λ c. search needs)
-    (λ c. search needs)
+    (λ c κs. search needs) (λ c. search needs) (λ c. search needs)
     (λ c. search body-short)
     (λ c. search (records-fit, bytes-there))
     (λ c. search bytes-there)

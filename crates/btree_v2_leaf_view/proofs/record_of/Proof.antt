@@ -8,9 +8,7 @@ pub record-of-spec : {M : Type 1} → statement M
 record-of-spec =
     tie.close
     (tie.spec
-    (λ c. search needs)
-    (λ c. search needs)
-    (λ c. search needs)
+    (λ c. search needs) (λ c. search needs) (λ c. search needs)
     (λ c. record-none _ _ _ _ (c .before .if1 .taken))
     (λ c. search record-fits)
     (λ c κs. search needs)

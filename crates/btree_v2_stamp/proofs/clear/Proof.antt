@@ -17,10 +17,7 @@ clear-spec =
     (tie.spec
     Inv-loop
     μ-loop
-    (λ c. search needs)
-    (λ c. search needs)
-    (λ c. search needs)
-    (λ c. search needs)
+    (λ c. search needs) (λ c. search needs) (λ c. search needs) (λ c. search needs)
     (λ c. cleared-turn _ _ _ (c .before .loop .inv) (c .loop-test .taken))
     (λ c. search needs)
     (λ c. cleared-end _ _ _ (c .before .loop .inv) (c .loop-test .left)))

@@ -15,15 +15,8 @@ stamp-spec =
     (λ c. stamp-full _ _ _ (c .before .if2 .left) (c .if3 .taken))
     (λ c. search needs)
     (λ c. simp length-take (omega arith))
-    (λ c κs. search needs)
-    (λ c. search needs)
-    (λ c κs. search needs)
-    (λ c. search needs)
-    (λ c. search needs)
-    (λ c. search needs)
-    (λ c. search needs)
-    (λ c κs. search needs)
-    (λ c. search needs)
+    (λ c κs. search needs) (λ c. search needs) (λ c κs. search needs) (λ c. search needs) (λ c. search needs)
+    (λ c. search needs) (λ c. search needs) (λ c κs. search needs) (λ c. search needs)
     (λ c.
     let written = c .before .before .before .before .before .before in
     let tested = written .before .before .before .before in

@@ -8,13 +8,10 @@ pub write-spec : {M : Type 1} → statement M
 write-spec =
     tie.close
     (tie.spec
-    (λ c κs. search needs)
-    (λ c. search needs)
-    (λ c. search needs)
+    (λ c κs. search needs) (λ c. search needs) (λ c. search needs)
     (λ c. wrote-refused (c .before .before .check .ensures) (c .enum-told .given .1))
     (λ c κs. accepted-planned (c .before .before .before .before .before .check .ensures) (c .before .before .before .answer .given .1))
-    (λ c. search needs)
-    (λ c. search needs)
+    (λ c. search needs) (λ c. search needs)
     (λ c.
     let put = c .before .before .before .before in
     let known = put .before .before .before .before in

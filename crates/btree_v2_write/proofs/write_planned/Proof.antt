@@ -8,13 +8,10 @@ pub write-planned-spec : {M : Type 1} → statement M
 write-planned-spec =
     tie.close
     (tie.spec
-    (λ c. search needs)
-    (λ c. search needs)
+    (λ c. search needs) (λ c. search needs)
     (λ c κs. search image-ready)
     (λ c. search needs)
     (λ c. search (root-some, needs))
     (λ c κs. search root-short)
-    (λ c κs. search needs)
-    (λ c. search needs)
-    (λ c. search needs)
+    (λ c κs. search needs) (λ c. search needs) (λ c. search needs)
     (λ c. search both-done))

@@ -8,15 +8,9 @@ pub add-last-block-spec : {M : Type 1} → statement M
 add-last-block-spec =
     tie.close
     (tie.spec
-    (λ c. search needs)
-    (λ c κs. search needs)
-    (λ c κs. search needs)
+    (λ c. search needs) (λ c κs. search needs) (λ c κs. search needs)
     (λ c. search added-4)
-    (λ c. search needs)
-    (λ c κs. search needs)
-    (λ c κs. search needs)
+    (λ c. search needs) (λ c κs. search needs) (λ c κs. search needs)
     (λ c. search added-8)
-    (λ c. search needs)
-    (λ c κs. search needs)
-    (λ c κs. search needs)
+    (λ c. search needs) (λ c κs. search needs) (λ c κs. search needs)
     (λ c. search added-12))

@@ -8,6 +8,5 @@ pub final-line-spec : {M : Type 1} → statement M
 final-line-spec =
     tie.close
     (tie.spec
-    (λ c κs. search needs)
-    (λ c κs. search needs)
+    (λ c κs. search needs) (λ c κs. search needs)
     (λ c. search final-line-is))

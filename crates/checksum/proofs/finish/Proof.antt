@@ -9,6 +9,5 @@ finish-spec =
     tie.close
     (tie.spec
     (λ c. search ended-none)
-    (λ c κs. search needs)
-    (λ c κs. search needs)
+    (λ c κs. search needs) (λ c κs. search needs)
     (λ c. search ended-some))

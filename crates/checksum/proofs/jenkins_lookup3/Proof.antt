@@ -20,11 +20,7 @@ jenkins-lookup3-spec =
     μ-loop
     (λ c κs. search needs)
     (λ c. search left-start)
-    (λ c. search needs)
-    (λ c κs. search needs)
-    (λ c κs. search needs)
-    (λ c. search needs)
-    (λ c. search needs)
+    (λ c. search needs) (λ c κs. search needs) (λ c κs. search needs) (λ c. search needs) (λ c. search needs)
     (λ c.
     let added = c .before in
     let turn = added .before in

@@ -8,7 +8,5 @@ pub mix-line-spec : {M : Type 1} → statement M
 mix-line-spec =
     tie.close
     (tie.spec
-    (λ c κs. search needs)
-    (λ c κs. search needs)
-    (λ c κs. search needs)
+    (λ c κs. search needs) (λ c κs. search needs) (λ c κs. search needs)
     (λ c. search mix-line-is))

@@ -8,7 +8,5 @@ pub rot-spec : {M : Type 1} → statement M
 rot-spec =
     tie.close
     (tie.spec
-    (λ c. search needs)
-    (λ c. search needs)
-    (λ c. search needs)
+    (λ c. search needs) (λ c. search needs) (λ c. search needs)
     (λ c. search rot-is))

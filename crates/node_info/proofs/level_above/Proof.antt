@@ -9,12 +9,7 @@ pub level-above-spec : {M : Type 1} → statement M
 level-above-spec =
     tie.close
     (tie.spec
-    (λ c. search needs)
-    (λ c. search needs)
-    (λ c. search needs)
-    (λ c κs. search needs)
+    (λ c. search needs) (λ c. search needs) (λ c. search needs) (λ c κs. search needs)
     (λ c. record { fits = search one-more })
-    (λ c κs. search needs)
-    (λ c κs. search needs)
-    (λ c κs. search needs)
+    (λ c κs. search needs) (λ c κs. search needs) (λ c κs. search needs)
     (λ c. level-is _ _ _ _ _ _ _ (c .before .before .before .max-records-internal .ensures) (saturated-step _ _ _ _ _ (c .before .before .saturating-mul .ensures) (c .before .saturating-add .ensures)) (c .bytes-for-max-records .ensures)))

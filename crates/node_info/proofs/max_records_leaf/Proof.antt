@@ -10,8 +10,5 @@ max-records-leaf-spec =
     (tie.spec
     (λ c. search leaf-small)
     (λ c. search leaf-no-size)
-    (λ c. search needs)
-    (λ c. search needs)
-    (λ c. search needs)
-    (λ c. search needs)
+    (λ c. search needs) (λ c. search needs) (λ c. search needs) (λ c. search needs)
     (λ c. search leaf-is))

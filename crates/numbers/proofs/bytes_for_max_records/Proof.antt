@@ -11,6 +11,5 @@ bytes-for-max-records-spec =
     (tie.spec
     (λ c. width-zero _ (c .if1 .taken))
     (λ c. leading-le 64 _)
-    (λ c. search needs)
-    (λ c. search needs)
+    (λ c. search needs) (λ c. search needs)
     (λ c. width-bits _ (c .before .fits .max-nrec .fits) (c .if1 .left)))

@@ -18,10 +18,7 @@ copy-spec =
     Inv-loop
     μ-loop
     (λ c. search copied-start)
-    (λ c. search needs)
-    (λ c. search needs)
-    (λ c. search needs)
-    (λ c. search needs)
+    (λ c. search needs) (λ c. search needs) (λ c. search needs) (λ c. search needs)
     (λ c. copied-turn _ _ (c .before .before .before .pre) _ _ (c .before .before .loop .inv) (c .before .loop-test .taken))
     (λ c. search needs)
     (λ c. search copied-end))

@@ -10,10 +10,6 @@ put-bytes-spec =
     (tie.spec
     (λ c. bytes-no-place _ _ _ (c .if1 .taken))
     (λ c. bytes-no-room _ _ _ (c .before .if1 .left) (c .if2 .taken))
-    (λ c. search needs)
-    (λ c. search needs)
-    (λ c. search needs)
-    (λ c. search needs)
-    (λ c κs. search needs)
+    (λ c. search needs) (λ c. search needs) (λ c. search needs) (λ c. search needs) (λ c κs. search needs)
     (λ c. search needs)
     (λ c. bytes-put _ _ _ _ (c .before .before .before .before .before .if1 .left) (c .before .before .before .before .if2 .left) (c .before .before .copy .ensures)))

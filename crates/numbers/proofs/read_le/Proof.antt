@@ -9,11 +9,6 @@ read-le-spec =
     tie.close
     (tie.spec
     (λ c. read-past _ _ _ (c .if1 .taken))
-    (λ c κs. search needs)
-    (λ c. search needs)
-    (λ c κs. search needs)
-    (λ c. search needs)
-    (λ c. search needs)
-    (λ c. search needs)
-    (λ c κs. search needs)
+    (λ c κs. search needs) (λ c. search needs) (λ c κs. search needs) (λ c. search needs) (λ c. search needs)
+    (λ c. search needs) (λ c κs. search needs)
     (λ c. read-part _ _ _ _ _ _ (c .before .before .before .smaller .ensures) (c .before .before .smaller2 .ensures) (c .read-bytes .ensures)))

@@ -31,9 +31,7 @@ pub +count-subtree-spec : {M : Type 1} → statement M
     (count-subtree-at t)
     count-subtree.Post
     (λ c. count-leaf _ _ _ (c .if1 .taken))
-    (λ c. search needs)
-    (λ c. search needs)
-    (λ c. search needs)
+    (λ c. search needs) (λ c. search needs) (λ c. search needs)
     (λ c κs. split-asks _ _ _ (c .before .before .pre .1) (c .before .if1 .left))
     (λ c κs. search (less-asks, c .before .before .if1 .left, arith))
     (λ c κs. search (parts-few, extra-less, c .before .before .before .before .before .if1 .left))

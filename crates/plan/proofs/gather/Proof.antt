@@ -9,7 +9,5 @@ pub gather-spec : {M : Type 1} → statement M
 gather-spec =
     tie.close
     (tie.spec
-    (λ c κs. search needs)
-    (λ c κs. search needs)
-    (λ c. search needs)
+    (λ c κs. search needs) (λ c κs. search needs) (λ c. search needs)
     (λ c. (ap (λ (k : ℕ). k + 1) (c .before .over-children .ensures .0), c .over-children2 .ensures .0)))

@@ -10,8 +10,6 @@ is-thin-spec =
     tie.close
     (tie.spec
     (λ c. search thin-none)
-    (λ c. search needs)
-    (λ c. search needs)
-    (λ c. search needs)
+    (λ c. search needs) (λ c. search needs) (λ c. search needs)
     (λ c. search power-pos)
     (λ c. thin-some _ _ (c .if1 .left) (c .before .pre)))

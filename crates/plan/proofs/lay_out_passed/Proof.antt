@@ -8,8 +8,7 @@ pub lay-out-passed-spec : {M : Type 1} → statement M
 lay-out-passed-spec =
     tie.close
     (tie.spec
-    (λ c κs. search needs)
-    (λ c κs. search needs)
+    (λ c κs. search needs) (λ c κs. search needs)
     (λ c. search laid-10)
     (λ c κs. search level-deep)
     (λ c κs. search needs)

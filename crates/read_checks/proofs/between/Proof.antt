@@ -8,9 +8,7 @@ pub between-spec : {M : Type 1} → statement M
 between-spec =
     tie.close
     (tie.spec
-    (λ c. search needs)
-    (λ c. search needs)
-    (λ c. search needs)
+    (λ c. search needs) (λ c. search needs) (λ c. search needs)
     (λ c. search between-none)
     (λ c κs. search needs)
     (λ c. search needs))

@@ -11,7 +11,6 @@ check-checksum-spec =
     (tie.spec
     (λ c κs. search needs)
     (λ c. let a = c .before .before .args in word-fits (a .«data» .now) (a .end) _ (c .read-le .ensures) (λ i. omega (arith, c .before .shared-slice-known .given i)))
-    (λ c κs. search needs)
-    (λ c κs. search needs)
+    (λ c κs. search needs) (λ c κs. search needs)
     (λ c. search sums-differ)
     (λ c. search sums-equal))

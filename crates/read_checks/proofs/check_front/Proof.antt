@@ -9,9 +9,7 @@ pub check-front-spec : {M : Type 1} → statement M
 check-front-spec =
     tie.close
     (tie.spec
-    (λ c κs. search needs)
-    (λ c. search needs)
-    (λ c. search needs)
+    (λ c κs. search needs) (λ c. search needs) (λ c. search needs)
     (λ c. search front-short)
     (λ c κs. search needs)
     (λ c. search (front-right, bytes-there))

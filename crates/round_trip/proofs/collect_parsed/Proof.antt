@@ -8,9 +8,6 @@ pub collect-parsed-spec : {M : Type 1} → statement M
 collect-parsed-spec =
     tie.close
     (tie.spec
-    (λ c. search needs)
-    (λ c κs. search needs)
-    (λ c. search needs)
-    (λ c. search needs)
+    (λ c. search needs) (λ c κs. search needs) (λ c. search needs) (λ c. search needs)
     (λ c. search collects-parsed)
     (λ c. search collects-refused))

@@ -12,6 +12,5 @@ collect-btree-v2-records-spec =
     (λ c. search no-root-records)
     (λ c. search no-record-size)
     (λ c. search too-deep)
-    (λ c κs. search needs)
-    (λ c. search needs)
+    (λ c κs. search needs) (λ c. search needs)
     (λ c. search needs))

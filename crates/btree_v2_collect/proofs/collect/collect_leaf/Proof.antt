@@ -10,9 +10,7 @@ pub collect-leaf-spec : {M : Type 1} → statement M
 collect-leaf-spec =
     tie.close
     (tie.spec
-    (λ c κs. search needs)
-    (λ c. search needs)
-    (λ c. search needs)
+    (λ c κs. search needs) (λ c. search needs) (λ c. search needs)
     (λ c. search (leaf-stops, leaf-tested))
     (λ c. search leaf-fits)
     (λ c κs. search needs)

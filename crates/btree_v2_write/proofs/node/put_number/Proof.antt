@@ -8,8 +8,7 @@ pub put-number-spec : {M : Type 1} → statement M
 put-number-spec =
     tie.close
     (tie.spec
-    (λ c κs. search needs)
-    (λ c. search needs)
+    (λ c κs. search needs) (λ c. search needs)
     (λ c.
     let put = c .before .before .write-le .ensures in
     let start = c .before .before .before .before .before in

@@ -12,11 +12,7 @@ put-pointer-spec =
     (λ c. search needs)
     (λ c. search pointer-number)
     (λ c κs. search pointer-address)
-    (λ c. search needs)
-    (λ c κs. search needs)
-    (λ c κs. search needs)
-    (λ c κs. search needs)
-    (λ c. search needs)
+    (λ c. search needs) (λ c κs. search needs) (λ c κs. search needs) (λ c κs. search needs) (λ c. search needs)
     (λ c.
     let total = c .before .before in
     let records = total .before .before .before .before in

@@ -9,11 +9,6 @@ pub write-internal-spec : {M : Type 1} → statement M
 write-internal-spec =
     tie.close
     (tie.spec
-    (λ c. search needs)
-    (λ c. search needs)
-    (λ c. search needs)
-    (λ c. search needs)
-    (λ c. search needs)
-    (λ c κs. search needs)
-    (λ c. search needs)
+    (λ c. search needs) (λ c. search needs) (λ c. search needs) (λ c. search needs) (λ c. search needs)
+    (λ c κs. search needs) (λ c. search needs)
     (λ c. node-placed _ _ _ _ (omega arith) (c .before .before .fill-internal .ensures)))

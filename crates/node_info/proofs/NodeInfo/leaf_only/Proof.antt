@@ -8,8 +8,5 @@ pub leaf-only-spec : {M : Type 1} → statement M
 leaf-only-spec =
     tie.close
     (tie.spec
-    (λ c κs. search needs)
-    (λ c κs. search needs)
-    (λ c. search needs)
-    (λ c. search needs)
+    (λ c κs. search needs) (λ c κs. search needs) (λ c. search needs) (λ c. search needs)
     (λ c. leaf-info _ _ _ (c .before .max-records-leaf .ensures) (c .bytes-for-max-records .ensures)))

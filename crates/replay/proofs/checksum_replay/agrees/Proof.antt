@@ -9,8 +9,7 @@ pub agrees-spec : {M : Type 1} → statement M
 agrees-spec =
     tie.close
     (tie.spec
-    (λ c κs. search needs)
-    (λ c. search needs)
+    (λ c κs. search needs) (λ c. search needs)
     (λ c. simp length-take (omega arith))
     (λ c κs. search needs)
     (λ c. rw (c .jenkins-lookup3 .ensures, c .before .before .input .ensures .1)))

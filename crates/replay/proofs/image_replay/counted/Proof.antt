@@ -11,8 +11,5 @@ counted-spec =
     (tie.spec
     (λ c. search needs)
     (λ c. simp length-take (omega arith))
-    (λ c. search needs)
-    (λ c. search needs)
-    (λ c κs. search needs)
-    (λ c κs. search needs)
+    (λ c. search needs) (λ c. search needs) (λ c κs. search needs) (λ c κs. search needs)
     (λ c. search needs))
