@@ -70,7 +70,10 @@ columns w m s t a hm hs ht ha =
     let lm : length (0 ∷ w ∷ m) ≡ 35 = rw hm in
     let ls : length (0 ∷ w ∷ (m ++ s)) ≡ 68 = simp (length-append, hm, hs) in
     let lt : length (w ∷ (m ++ (s ++ t))) ≡ 100 = simp (length-append, hm, hs, ht) in
-    rw (two a 0 w (omega arith), next a (0 ∷ w ∷ []) m 2 refl, next a (0 ∷ w ∷ m) s 35 lm, next a (0 ∷ w ∷ (m ++ s)) t 68 ls, append-assoc, stored-whole a (0 ∷ w ∷ (m ++ (s ++ t))) (omega arith), cells-accepted 101 (w ∷ (m ++ (s ++ t))) 0 (omega arith), append-nil)
+    let whole = stored-whole a (0 ∷ w ∷ (m ++ (s ++ t))) (omega arith) in
+    let cells-are = cells-accepted 101 (w ∷ (m ++ (s ++ t))) 0 (omega arith) in
+    rw (two a 0 w (omega arith), next a (0 ∷ w ∷ []) m 2 refl, next a (0 ∷ w ∷ m) s 35 lm, next a (0 ∷ w ∷ (m ++ s)) t 68 ls)
+    (rw (append-assoc, whole, cells-are, append-nil))
 
 pub table-put : (i : NodeInfo) (a : List ℕ) {v : Verdict} {b c d : List ℕ} → v ≡ Accepted
     → length (i .«max_nrec») ≡ 33 → length (i .«cum_max_nrec») ≡ 33 → length (i .«cum_max_nrec_size») ≡ 33

@@ -74,9 +74,12 @@ pub extern "C" fn btree_v2_write(
     image: &mut [u8],
     answer: &mut [u64; 5],
 )
-    ensures answered { λ _. ⌜ now (answer .exit) ≡ cells 5 (written (asked «tree_type» «record_count» (sizes «node_size» «record_size» «offset_size») «length_size» start) (now (records .entry)) (now (header .entry)) (now (image .entry))) ⌝ }
-    ensures headerLeft { λ _. ⌜ now (header .exit) ≡ headerExit (asked «tree_type» «record_count» (sizes «node_size» «record_size» «offset_size») «length_size» start) (now (records .entry)) (now (header .entry)) (now (image .entry)) ⌝ }
-    ensures imageLeft { λ _. ⌜ now (image .exit) ≡ imageExit (asked «tree_type» «record_count» (sizes «node_size» «record_size» «offset_size») «length_size» start) (now (records .entry)) (now (header .entry)) (now (image .entry)) ⌝ }
+    ensures answered { λ _. ⌜ now (answer .exit) ≡ cells 5 (written (asked «tree_type» «record_count» (sizes «node_size» «record_size» «offset_size») «length_size» start)
+        (now (records .entry)) (now (header .entry)) (now (image .entry))) ⌝ }
+    ensures headerLeft { λ _. ⌜ now (header .exit) ≡ headerExit (asked «tree_type» «record_count» (sizes «node_size» «record_size» «offset_size») «length_size» start)
+        (now (records .entry)) (now (header .entry)) (now (image .entry)) ⌝ }
+    ensures imageLeft { λ _. ⌜ now (image .exit) ≡ imageExit (asked «tree_type» «record_count» (sizes «node_size» «record_size» «offset_size») «length_size» start)
+        (now (records .entry)) (now (header .entry)) (now (image .entry)) ⌝ }
 {
     let geometry = Geometry {
         node_size,
@@ -125,8 +128,10 @@ pub extern "C" fn btree_v2_collect(
     output: &mut [u8],
     answer: &mut [u64; 7],
 )
-    ensures answered { λ _. ⌜ now (answer .exit) ≡ runCells (collected (now (file .entry)) (given «tree_type» (sizes «node_size» «record_size» «offset_size») depth «root_address» «root_records» «total_records») (now (output .entry))) ⌝ }
-    ensures outputLeft { λ _. ⌜ now (output .exit) ≡ runOutput (collected (now (file .entry)) (given «tree_type» (sizes «node_size» «record_size» «offset_size») depth «root_address» «root_records» «total_records») (now (output .entry))) ⌝ }
+    ensures answered { λ _. ⌜ now (answer .exit) ≡ runCells (collected (now (file .entry))
+        (given «tree_type» (sizes «node_size» «record_size» «offset_size») depth «root_address» «root_records» «total_records») (now (output .entry))) ⌝ }
+    ensures outputLeft { λ _. ⌜ now (output .exit) ≡ runOutput (collected (now (file .entry))
+        (given «tree_type» (sizes «node_size» «record_size» «offset_size») depth «root_address» «root_records» «total_records») (now (output .entry))) ⌝ }
 {
     let geometry = Geometry {
         node_size,

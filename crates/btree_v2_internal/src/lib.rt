@@ -31,7 +31,8 @@ fn pointer_size(sizes: Sizes, total_size: u8) -> u64
 
 // An internal node's tests.
 pub fn check_internal(file: &[u8], sizes: Sizes, total_size: u8, node: Node) -> Verdict
-    ensures { λ r. ⌜ verdictOf r ≡ internalTest (now (file .entry)) (sizes .geometry .«record_size») (sizes .geometry .«offset_size») (childPointerSize (sizes .geometry) (sizes .«count_size») «total_size») (node .address) (node .records) ⌝ }
+    ensures { λ r. ⌜ verdictOf r ≡ internalTest (now (file .entry)) (sizes .geometry .«record_size») (sizes .geometry .«offset_size»)
+        (childPointerSize (sizes .geometry) (sizes .«count_size») «total_size») (node .address) (node .records) ⌝ }
 {
     let front = read_checks::check_front(file, node.address, b'I', b'N');
     let Verdict::Accepted = front else {
@@ -42,7 +43,8 @@ pub fn check_internal(file: &[u8], sizes: Sizes, total_size: u8, node: Node) -> 
 
 // The tests after those of the front: the records and the pointers are there, and offsets have one of the sizes.
 pub fn check_body(file: &[u8], sizes: Sizes, total_size: u8, node: Node) -> Verdict
-    ensures { λ r. ⌜ verdictOf r ≡ internalBody (now (file .entry)) (sizes .geometry .«record_size») (sizes .geometry .«offset_size») (childPointerSize (sizes .geometry) (sizes .«count_size») «total_size») (node .address) (node .records) ⌝ }
+    ensures { λ r. ⌜ verdictOf r ≡ internalBody (now (file .entry)) (sizes .geometry .«record_size») (sizes .geometry .«offset_size»)
+        (childPointerSize (sizes .geometry) (sizes .«count_size») «total_size») (node .address) (node .records) ⌝ }
 {
     let geometry = sizes.geometry;
     let rest = numbers::part(file, node.address, file.len() as u64);

@@ -50,7 +50,8 @@ pub(crate) fn write_leaf(
     r: usize,
     j: usize,
 )
-    requires { ⌜ ((j + 1) * request .geometry .«node_size» ≤ length (now image)) × (10 + n * request .geometry .«record_size» ≤ request .geometry .«node_size») × ((r + n) * request .geometry .«record_size» ≤ length (now records)) ⌝ }
+    requires { ⌜ ((j + 1) * request .geometry .«node_size» ≤ length (now image)) × (10 + n * request .geometry .«record_size» ≤ request .geometry .«node_size»)
+        × ((r + n) * request .geometry .«record_size» ≤ length (now records)) ⌝ }
     ensures { λ _. ⌜ now (image .exit) ≡ stored (now (image .entry)) (j * request .geometry .«node_size») (padded (request .geometry .«node_size») (leafBytes request (now (records .entry)) n r)) ⌝ }
 {
     let geometry = request.geometry;
@@ -154,7 +155,8 @@ fn put_pointer(
 // Puts the pointers to a node's children from `at` on, and gives the place after them.
 fn put_pointers(node: &mut [u8], request: Request, at: usize, internal: InternalNode) -> usize
     requires { ⌜ PointersFit request (length (now node)) at internal ⌝ }
-    ensures { λ p. ⌜ (now (node .exit) ≡ stored (now (node .entry)) at (pointersTo request (internal .«count_size») (internal .«total_size») (childrenOf internal) (internal .«first_node»))) × (p ≡ at + (internal .kept + 1) * pointerSize request internal) ⌝ }
+    ensures { λ p. ⌜ (now (node .exit) ≡ stored (now (node .entry)) at (pointersTo request (internal .«count_size») (internal .«total_size») (childrenOf internal) (internal .«first_node»)))
+        × (p ≡ at + (internal .kept + 1) * pointerSize request internal) ⌝ }
 {
     let kept = internal.kept;
     let extra = internal.extra;

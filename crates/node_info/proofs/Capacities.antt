@@ -1,7 +1,8 @@
 -- Laws of the capacities and field widths of a tree's levels.
 use mathlib.Core.Path.{_≡_, refl}
 use Prim.Native.Nat.{ℕ, zero, suc, _+_, _-_, _*_, _/_, _^_, _≤_, _<_, zero-le}
-use native.Mathlib.Nat.{add-le-add, add-mul, add-sub-cancel, div-le-self, div-mul-le-self, le-div-iff-mul-le, le-refl, le-trans, lt-of-le-of-lt, mul-add, mul-comm, mul-le-mul, mul-le-mul-left, mul-le-mul-right, not-suc-le-zero, one-le-pow, one-mul, pos-of-div-pos, pow-suc, pow-zero, sub-le, suc-add}
+use native.Mathlib.Nat.{add-le-add, add-mul, add-sub-cancel, div-le-self, div-mul-le-self, le-div-iff-mul-le, le-refl, le-trans, lt-of-le-of-lt, mul-add}
+use native.Mathlib.Nat.{mul-comm, mul-le-mul, mul-le-mul-left, mul-le-mul-right, not-suc-le-zero, one-le-pow, one-mul, pos-of-div-pos, pow-suc, pow-zero, sub-le, suc-add}
 use native.Mathlib.Decide.{le-ind}
 use native.Mathlib.Omega.{arith}
 use lib.Arith.{mul-pred}

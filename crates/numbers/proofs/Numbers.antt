@@ -4,7 +4,8 @@ use mathlib.Core.Bool.{Bool, true, false}
 use mathlib.Core.List.{List, [], _∷_, _++_}
 use mathlib.Core.Logic.{_⊎_, inl, inr, ⊎-elim}
 use Prim.Native.Nat.{ℕ, zero, suc, _+_, _-_, _*_, _/_, _%_, _^_, _≤_, _<_}
-use native.Mathlib.Nat.{zero-add, suc-add, mul-comm, mul-assoc, mod-eq-of-lt, div-one, div-div-eq-div-mul, pow-zero, pow-suc, pow-succ', pow-le-pow-right, one-le-pow, not-le-of-lt, lt-of-not-le, le-trans, lt-of-lt-of-le, lt-of-le-of-lt, eq-or-lt-of-le, mul-suc, suc-mul, zero-mul, min-le-left, le-div-iff-mul-le, div-lt-iff-lt-mul}
+use native.Mathlib.Nat.{zero-add, suc-add, mul-comm, mul-assoc, mod-eq-of-lt, div-one, div-div-eq-div-mul, pow-zero, pow-suc, pow-succ', pow-le-pow-right, one-le-pow, not-le-of-lt}
+use native.Mathlib.Nat.{lt-of-not-le, le-trans, lt-of-lt-of-le, lt-of-le-of-lt, eq-or-lt-of-le, mul-suc, suc-mul, zero-mul, min-le-left, le-div-iff-mul-le, div-lt-iff-lt-mul}
 use native.Mathlib.Omega.{arith}
 use lib.Arith.{mod-mul}
 use lib.Count.{leadingZeros, leading-top}

@@ -118,7 +118,8 @@ fn over_children(distributed: Shares, larger: u64, smaller: u64) -> u64
 // The counts of a node whose children have these.
 fn gather(distributed: Shares, larger: Counts, smaller: Counts) -> Counts
     requires { ⌜ (distributed .parts ≤ 2 ^ 24) × (distributed .extra < distributed .parts) × (larger .nodes < 2 ^ 24) × (larger .leaves < 2 ^ 24) × (smaller .nodes < 2 ^ 24) × (smaller .leaves < 2 ^ 24) ⌝ }
-    ensures { λ r. ⌜ (r .nodes ≡ distributed .extra * larger .nodes + (distributed .parts - distributed .extra) * smaller .nodes + 1) × (r .leaves ≡ distributed .extra * larger .leaves + (distributed .parts - distributed .extra) * smaller .leaves) ⌝ }
+    ensures { λ r. ⌜ (r .nodes ≡ distributed .extra * larger .nodes + (distributed .parts - distributed .extra) * smaller .nodes + 1)
+        × (r .leaves ≡ distributed .extra * larger .leaves + (distributed .parts - distributed .extra) * smaller .leaves) ⌝ }
 {
     let under = over_children(distributed, larger.nodes, smaller.nodes);
     let leaves = over_children(distributed, larger.leaves, smaller.leaves);

@@ -6,7 +6,7 @@ use mathlib.Core.List.{List, [], _∷_, _++_}
 use Prim.Native.Nat.{ℕ, _+_, _-_, _^_, _≤_, _<_}
 use native.Mathlib.Nat.{div-le-self, eq-zero-or-pos}
 use native.Mathlib.Omega.{arith}
-use lib.Dec.{lit<}
+use lib.Dec.{leb, lit<}
 use lib.ListN.{length}
 use borrow.Author.Tests.{le-leb}
 use Rattle.checksum.proofs.Promise.{lookup3, lookup3-lt}
@@ -50,7 +50,9 @@ pub parsed-passed : (file : List ℕ) (o ow lw : ℕ) → o + headerSize ow lw �
     → parsed file o ow lw ≡ accepted (headerFigures (headerAt file o ow lw))
 unfolding parsed
 parsed-passed file o ow lw l s v fo fl c =
-    rw (le-leb (o + 4) (length file) (omega arith), s, same-refl headerSignature, le-leb (o + 16) (length file) (omega arith), v, fo, le-leb (o + 16 + ow) (length file) (omega arith), le-leb (o + 18 + ow) (length file) (omega arith), fl, le-leb (o + 18 + ow + lw) (length file) (omega arith), le-leb (o + 22 + ow + lw) (length file) (omega arith)) c
+    let there : (end : ℕ) → end ≤ o + headerSize ow lw → leb end (length file) ≡ true = λ end h. le-leb end (length file) (omega arith) in
+    rw (there (o + 4) (omega arith), s, same-refl headerSignature, there (o + 16) (omega arith), v, fo)
+    (rw (there (o + 16 + ow) (omega arith), there (o + 18 + ow) (omega arith), fl, there (o + 18 + ow + lw) (omega arith), there (o + 22 + ow + lw) (omega arith)) c)
 
 -- A header that stands in a file is read.
 module _ (sum-fits : (xs : List ℕ) → lookup3 xs < 256 ^ 4) (file : List ℕ) (o : ℕ) (q : Request) (depth root rootRecords n : ℕ)

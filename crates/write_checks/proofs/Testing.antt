@@ -51,7 +51,8 @@ module _ (q : Request) (image : ℕ) (l : Lengths) where
       lengths-14 : 2 ^ (8 * q .geometry .«offset_size») - 1 < q .start + image → Is (refused 14 (q .start ∷ []))
       unfolding lengthAnswer
       lengths-14 h =
-          rw (eq-eqb (l .records) (q .«record_count» * q .geometry .«record_size») records, le-leb (q .«record_count») (2 ^ (8 * q .«length_size») - 1) (rw tops at count), lt-leb (q .start + image) (2 ^ (8 * q .geometry .«offset_size») - 1) h)
+          rw (eq-eqb (l .records) (q .«record_count» * q .geometry .«record_size») records, le-leb (q .«record_count») (2 ^ (8 * q .«length_size») - 1) (rw tops at count))
+          (rw (lt-leb (q .start + image) (2 ^ (8 * q .geometry .«offset_size») - 1) h))
 
       module _ (most : ℕ) (largest : most ≡ 2 ^ (8 * q .geometry .«offset_size») - 1) where
         pub lengths-14-image : most < image → Is (refused 14 (q .start ∷ []))
@@ -67,7 +68,8 @@ module _ (q : Request) (image : ℕ) (l : Lengths) where
             unfolding lengthAnswer
             passed rest e =
                 let s : q .start + image ≤ 2 ^ (8 * q .geometry .«offset_size») - 1 = omega arith in
-                rw (eq-eqb (l .records) (q .«record_count» * q .geometry .«record_size») records, le-leb (q .«record_count») (2 ^ (8 * q .«length_size») - 1) (rw tops at count), le-leb (q .start + image) (2 ^ (8 * q .geometry .«offset_size») - 1) s) (sym e)
+                rw (eq-eqb (l .records) (q .«record_count» * q .geometry .«record_size») records, le-leb (q .«record_count») (2 ^ (8 * q .«length_size») - 1) (rw tops at count))
+                (rw (le-leb (q .start + image) (2 ^ (8 * q .geometry .«offset_size») - 1) s) (sym e))
 
             pub lengths-15-header : l .header < headerSize (q .geometry .«offset_size») (q .«length_size») → Is (refused 15 (l .header ∷ []))
             lengths-15-header h = passed _ (rw (lt-leb (headerSize (q .geometry .«offset_size») (q .«length_size»)) (l .header) h))

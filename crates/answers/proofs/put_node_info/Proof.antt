@@ -13,5 +13,13 @@ put-node-info-spec =
     (tie.spec
     (λ c. search needs) (λ c. search needs) (λ c. search needs) (λ c. search needs) (λ c κs. search needs)
     (λ c κs. search needs) (λ c κs. search needs) (λ c. search needs) (λ c κs. search needs)
-    (λ c. let second = c .before .before .before .before .before in let first = second .before .before .before .before .before in let entry = first .before .before .before .before .before .before .before .before in table-put (entry .args .computed .info) (entry .args .answer .now) (first .before .before .before .before .before .before .enum-told .given .1) (first .before .put-column-arg3 .given .0) (second .before .put-column-arg6 .given .0) (c .before .put-widths-arg3 .given .0) (first .before .before .before .before .put-column-arg .given .0 .1) (first .put-column .ensures) (second .put-column2 .ensures) (c .put-widths .ensures))
+    (λ c.
+    let second = c .before .before .before .before .before in
+    let first = second .before .before .before .before .before in
+    let accepted = first .before .before .before .before .before .before in
+    let entry = accepted .before .before in
+    table-put (entry .args .computed .info) (entry .args .answer .now) (accepted .enum-told .given .1)
+    (first .before .put-column-arg3 .given .0) (second .before .put-column-arg6 .given .0) (c .before .put-widths-arg3 .given .0)
+    (first .before .before .before .before .put-column-arg .given .0 .1)
+    (first .put-column .ensures) (second .put-column2 .ensures) (c .put-widths .ensures))
     (λ c. put-is (sym (ap (λ v. tableAnswer v (c .before .before .before .before .before .args .computed .info)) (c .before .before .before .verdict .given .1))) (c .before .put-refusal-arg .given .0 .1) (c .put-refusal .ensures)))

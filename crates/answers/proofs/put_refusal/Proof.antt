@@ -15,5 +15,8 @@ put-refusal-spec =
     (λ c κs. search needs) (λ c. search needs)
     (λ c. simp length-set (omega arith))
     (λ c. search needs) (λ c. search needs) (λ c. search needs) (λ c. search needs) (λ c κs. search needs)
-    (λ c. let e = c .before .before .before .before .before .before in put-length (refusalOf (e .args .cause)) (refusal-put (e .args .cause) (e .args .answer .now) (e .pre) (c .before .before .before .before .code .ensures) (c .before .before .clear .ensures)))
+    (λ c.
+    let e = c .before .before .before .before .before .before in
+    let put = refusal-put (e .args .cause) (e .args .answer .now) (e .pre) (c .before .before .before .before .code .ensures) in
+    put-length (refusalOf (e .args .cause)) (put (c .before .before .clear .ensures)))
     (λ c. let e = c .before .before .before .before .before .before in refusal-put (e .args .cause) (e .args .answer .now) (e .pre) (c .before .before .before .before .code .ensures) (c .before .before .clear .ensures)))

@@ -35,8 +35,17 @@ pub +count-subtree-spec : {M : Type 1} → statement M
     (λ c κs. split-asks _ _ _ (c .before .before .pre .1) (c .before .if1 .left))
     (λ c κs. search (less-asks, c .before .before .if1 .left, arith))
     (λ c κs. search (parts-few, extra-less, c .before .before .before .before .before .if1 .left))
-    (λ c. let node = c .before .before .before .before in count-one _ _ _ (node .before .before .before .pre .1) (node .before .before .if1 .left) _ _ _ (node .split .ensures .0) (node .split .ensures .1) (node .split .ensures .2) _ _ _ _ (c .before .before .before .count-subtree .ensures) (c .before .if2 .taken) (c .gather .ensures .0) (c .gather .ensures .1))
+    (λ c.
+    let node = c .before .before .before .before in
+    let split = node .split .ensures in
+    count-one _ _ _ (node .before .before .before .pre .1) (node .before .before .if1 .left) _ _ _ (split .0) (split .1) (split .2)
+    _ _ _ _ (c .before .before .before .count-subtree .ensures) (c .before .if2 .taken) (c .gather .ensures .0) (c .gather .ensures .1))
     (λ c. search (more-fits, c .before .before .before .before .before .before .if1 .left))
     (λ c κs. search (more-asks, c .before .if2 .left, c .before .before .before .before .before .before .if1 .left, arith))
     (λ c κs. search (parts-few, extra-less, c .before .before .before .before .before .before .before .if1 .left))
-    (λ c. let node = c .before .before .before .before .before .before in count-two _ _ _ (node .before .before .before .pre .1) (node .before .before .if1 .left) _ _ _ (node .split .ensures .0) (node .split .ensures .1) (node .split .ensures .2) _ _ _ _ (c .before .before .before .before .before .count-subtree .ensures) _ _ (c .before .count-subtree2 .ensures) (c .gather2 .ensures .0) (c .gather2 .ensures .1)))
+    (λ c.
+    let node = c .before .before .before .before .before .before in
+    let split = node .split .ensures in
+    count-two _ _ _ (node .before .before .before .pre .1) (node .before .before .if1 .left) _ _ _ (split .0) (split .1) (split .2)
+    _ _ _ _ (c .before .before .before .before .before .count-subtree .ensures) _ _ (c .before .count-subtree2 .ensures)
+    (c .gather2 .ensures .0) (c .gather2 .ensures .1)))
