@@ -72,7 +72,8 @@ fn record_of<'a>(records: &'a [u8], record_size: u16, count: u16, i: u64) -> &'a
 impl<'a> LeafAnswer<'a> {
     // A look at the leaf at `address` with `count` records.
     pub fn look(file: &'a [u8], address: u64, count: u16, record_size: u16) -> LeafAnswer<'a>
-        ensures { λ r. ⌜ (verdictOf (r .verdict) ≡ lookTest (now (file .entry)) «record_size» address count) × (now (r .view .records) ≡ lookBytes (now (file .entry)) «record_size» address count) × (r .view .«record_size» ≡ «record_size») × (r .view .count ≡ count) ⌝ }
+        ensures { λ r. ⌜ (verdictOf (r .verdict) ≡ lookTest (now (file .entry)) «record_size» address count)
+            × (now (r .view .records) ≡ lookBytes (now (file .entry)) «record_size» address count) × (r .view .«record_size» ≡ «record_size») × (r .view .count ≡ count) ⌝ }
     {
         let verdict = check_view(file, address, count, record_size);
         let records = records_of(verdict, file, address, count, record_size);

@@ -21,4 +21,5 @@ copy-leaf-record-spec =
     let test = copied .before .before in
     let look = test .before .before .before in
     let start = look .before .before .before .before .before in
-    copy-done _ _ _ _ (start .args .index) _ _ (look .before .before .check-view .ensures) (look .enum-told .given .1) _ _ (test .before .before .records-of .ensures) (test .before .record-of .ensures) (test .if1 .left) _ (copied .put-bytes .ensures)))
+    copy-done _ _ _ _ (start .args .index) _ _ (look .before .before .check-view .ensures) (look .enum-told .given .1) _ _ (test .before .before .records-of .ensures)
+    (test .before .record-of .ensures) (test .if1 .left) _ (copied .put-bytes .ensures)))

@@ -76,6 +76,9 @@ module _ {M : Type 1} (𝓤 : URA M) (H : Heap 𝓤) (A : Atoms 𝓤) (mem : Mem
 
 module _ {M : Type 1} (𝓤 : URA M) (H : Heap 𝓤) (A : Atoms 𝓤) (W : Given 𝓤 H A) (mem : Memory → SProp 𝓤) (run : Routine → Fun 𝓤) (κ : Lft) (q : Share) (s : RefT (List ℕ)) (a n k : ℕ)
     (ga : a < 2 ^ 64) (gn : n < 2 ^ 16) (gk : k < 2 ^ 16) where
+  abbrev here : NamedLft
+  here = record { mir = erased; lft = κ }
+
   -- the machine value of the slice
   abbrev v : Val
   v = sliceVal (s .ptr) (length (s .now))
@@ -151,8 +154,18 @@ module _ {M : Type 1} (𝓤 : URA M) (H : Heap 𝓤) (A : Atoms 𝓤) (W : Given
           → ent 𝓤 (⋆ 𝓤 H A (‵ (ShrSlice (named 0) κ u8 .own t (w ∷ [])) ∷ (‵ (flft κ q) ⊛ ‵ ftrue) ∷ ‵ Own ∷ [])) (Post made-at)
       exits tested got =
           qed W (‵ (ShrSlice (named 0) κ u8 .own t (w ∷ [])) ∷ (‵ (flft κ q) ⊛ ‵ ftrue) ∷ ‵ Own ∷ []) ∵
-          suffices ! _ (ends-at 𝓤 H A it.ended stayed (it.clauses 𝓤 H A mem run) W (((κ, tt), (q, tt), tt, (s, (a, (n, (k, tt)))), at), tt) made-at made (tt, (tt, (tt, (tt, tt)))) (tt, (tt, (tt, (tt, tt))))) $ says ! (tested, look-bytes (now s) k a n r (now t) tested got, refl, refl) $
-          move ! (1 ∷ []) $ frame ! $ nothing ! $ owned ! u16 (Is u16) (uint-makes 𝓤 H A W w16) k _ (refl, gk) $ fjoin ! $ owned ! u16 (Is u16) (uint-makes 𝓤 H A W w16) n _ (refl, gn) $ fjoin ! $ owned ! u64 (Is u64) (uint-makes 𝓤 H A W w64) a _ (refl, ga) $ fjoin ! $
+          suffices ! _ (ends-at 𝓤 H A it.ended stayed (it.clauses 𝓤 H A mem run) W (((κ, tt), (q, tt), tt, (s, (a, (n, (k, tt)))), at), tt) made-at made (tt, (tt, (tt, (tt, tt)))) (
+            tt,
+            (
+              tt,
+              (
+                tt,
+                (tt, tt),
+              ),
+            ),
+          )) $ says ! (tested, look-bytes (now s) k a n r (now t) tested got, refl, refl) $
+          move ! (1 ∷ []) $ frame ! $ nothing ! $ owned ! u16 (Is u16) (uint-makes 𝓤 H A W w16) k _ (refl, gk) $ fjoin ! $ owned ! u16 (Is u16) (uint-makes 𝓤 H A W w16) n _ (refl, gn) $ fjoin ! $
+          owned ! u64 (Is u64) (uint-makes 𝓤 H A W w64) a _ (refl, ga) $ fjoin ! $
           move ! (2 ∷ 0 ∷ []) $ fjoin ! $ frame ! $
           -- [what the slice owns]: with the numbers, what the view owns; with the verdict, what the answer owns
           nothing ! $ owned ! u16 (Is u16) (uint-makes 𝓤 H A W w16) n _ (refl, gn) $ fjoin ! $ owned ! u16 (Is u16) (uint-makes 𝓤 H A W w16) k _ (refl, gk) $ fjoin ! $ move ! (1 ∷ 0 ∷ []) $ fjoin ! $
@@ -165,38 +178,71 @@ module _ {M : Type 1} (𝓤 : URA M) (H : Heap 𝓤) (A : Atoms 𝓤) (W : Given
     walk p =
         qed W (raw (onEntry 𝓤 H A it.signature (κ, tt) (q, tt) (s, (a, (n, (k, tt)))) at) ∷ []) ∵ enter ! C Λ code.function (v ∷ vint w64 a ∷ vint w16 n ∷ vint w16 k ∷ []) _ $
         alloc1 ! (λ l₀. alloc1 ! (λ l₁. alloc1 ! (λ l₂. alloc1 ! (λ l₃. alloc1 ! (λ l₄. alloc1 ! (λ l₅. alloc1 ! (λ l₆. alloc1 ! (λ l₇. alloc0 ! $ params1 ! $
-        pass1 ! (init ! 12 refl (shr-slice-lawful 𝓤 H A W (named 0) κ u8 .typed s (v ∷ []) p .0)) $ pass1 ! (init ! 10 refl (tt, record { fits = ga })) $ pass1 ! (init ! 8 refl (tt, record { fits = gn })) $ pass1 ! (init ! 6 refl (tt, record { fits = gk })) $ pass0 ! $
+        pass1 ! (init ! 12 refl (shr-slice-lawful 𝓤 H A W (named 0) κ u8 .typed s (v ∷ []) p .0)) $ pass1 ! (init ! 10 refl (
+          tt,
+          record {
+            fits =
+                ga;
+          },
+        )) $ pass1 ! (init ! 8 refl (tt, record { fits = gn })) $ pass1 ! (init ! 6 refl (tt, record { fits = gk })) $ pass0 ! $
         move ! (16 ∷ []) $ use1 W (raw (Check 𝓤 H A mem run .pre to-check) ⊛ ‵ Own) goes-check $ split ! $
         -- [what `check_view` asks; what s owns; room for _7; …; _6; …; _5; …; _4; …; _3; …; _2; …; _1; …; room for _0; …]
-        calls-at ! fm (Check 𝓤 H A mem run) known-check to-check (and-then ! (load ! (from ! (stop !)) (look ! 14 refl)) (and-then ! (load ! (from ! (stop !)) (look ! 12 refl)) (and-then ! (load ! (from ! (stop !)) (look ! 10 refl)) (and-then ! (load ! (from ! (stop !)) (look ! 8 refl)) (no-more !))))) (λ u.
+        calls-at ! fm (Check 𝓤 H A mem run) known-check to-check (and-then ! (load ! (from ! (stop !)) (look ! 14 refl)) (and-then ! (load ! (from ! (stop !)) (look ! 12 refl)) (and-then ! (load !
+        (from ! (stop !)) (look ! 10 refl)) (and-then ! (load ! (from ! (stop !)) (look ! 8 refl)) (no-more !))))) (λ u.
         use1 W (later (some (λ (r : Verdict). ((‵ (flft κ q) ⊛ ‵ ftrue) ⊛ ‵ (E.the-row .own r (u ∷ []))) ⊛ raw (ensured 𝓤 H A tests.ended (tests.clauses 𝓤 H A mem run) (κ, tt) (s, (a, (n, (k, tt)))) tt r)))) (id⊢ 𝓤 _) $ await ! tt $ pick ! (λ r.
         split ! $ move ! (1 ∷ []) $ use1 W (raw (fact 𝓤 (verdictOf r ≡ lookTest (now s) k a n))) (check-said r) $ heard ! (verdictOf r ≡ lookTest (now s) k a n) (λ tested. split ! $ move ! (1 ∷ []) $
         -- [the verdict; the token; what s owns; room for _7; …]
         peeks ! E.the-row (Is E.the-row) (shows 𝓤 H A E.the-row) r (u ∷ []) (λ is. drop ! $
         land ! (from ! (stop !)) (init ! 6 refl (EL.lawful E.the-type E′.the-laws 𝓤 H A W tt .typed r _ is .0)) $
         use2 W (raw (RecordsOf 𝓤 H A mem run .pre (to-of r u is)) ⊛ ‵ Own) (goes-of r u is) $ split ! $
-        calls-at ! fm (RecordsOf 𝓤 H A mem run) known-of (to-of r u is) (and-then ! (load ! (from ! (stop !)) (look ! 6 refl)) (and-then ! (load ! (from ! (stop !)) (look ! 14 refl)) (and-then ! (load ! (from ! (stop !)) (look ! 12 refl)) (and-then ! (load ! (from ! (stop !)) (look ! 10 refl)) (and-then ! (load ! (from ! (stop !)) (look ! 8 refl)) (no-more !)))))) (λ w.
-        use1 W (later (some (λ (t : RefT (List ℕ)). ((‵ (flft κ q) ⊛ ‵ ftrue) ⊛ ‵ (ShrSlice (named 0) κ u8 .own t (w ∷ []))) ⊛ raw (ensured 𝓤 H A of.ended (of.clauses 𝓤 H A mem run) (κ, tt) (r, (s, (a, (n, (k, tt))))) tt t)))) (id⊢ 𝓤 _) $ await ! tt $ pick ! (λ t.
+        calls-at ! fm (RecordsOf 𝓤 H A mem run) known-of (to-of r u is) (and-then ! (load ! (from ! (stop !)) (look ! 6 refl)) (and-then ! (load ! (from ! (stop !)) (look ! 14 refl)) (and-then !
+        (load ! (from ! (stop !)) (look ! 12 refl)) (and-then ! (load ! (from ! (stop !)) (look ! 10 refl)) (and-then ! (load ! (from ! (stop !)) (look ! 8 refl)) (no-more !)))))) (λ w.
+        use1 W (later (some (λ (t : RefT (List ℕ)). ((‵ (flft κ q) ⊛ ‵ ftrue) ⊛ ‵ (ShrSlice (named 0) κ u8 .own t (w ∷ []))) ⊛ raw (ensured 𝓤 H A of.ended (of.clauses 𝓤 H A mem run) (κ, tt) (
+          r,
+          (
+            s,
+            (a, (n, (k, tt))),
+          ),
+        ) tt t)))) (id⊢ 𝓤 _) $ await ! tt $ pick ! (λ t.
         split ! $ move ! (1 ∷ []) $ use1 W (raw (fact 𝓤 (now t ≡ bytesIf (verdictOf r) (now s) k a n))) (of-said r u is t) $ heard ! (now t ≡ bytesIf (verdictOf r) (now s) k a n) (λ got. split ! $ move ! (1 ∷ []) $
         -- [what the records own; the token; what s owns; room for _7; …; room for _6; …; _5; …; _4; …; _3; …; _2; …; _1; …; room for _0; …]
         peeks ! (ShrSlice (named 0) κ u8) (Is (ShrSlice (named 0) κ u8)) (shows 𝓤 H A (ShrSlice (named 0) κ u8)) t (w ∷ []) (λ is-t.
         land ! (from ! (stop !)) (init ! 5 refl (shr-slice-lawful 𝓤 H A W (named 0) κ u8 .typed t _ is-t .0)) $
-        assigns ! (agg ! (and-then ! (load ! (from ! (stop !)) (look ! 5 refl)) (and-then ! (load ! (from ! (stop !)) (look ! 9 refl)) (and-then ! (load ! (from ! (stop !)) (look ! 11 refl)) (no-more !))))) (from ! (stop !)) (init ! 3 refl (LL.lawful (T.the-type (record { mir = erased; lft = κ })) (T′.the-laws (record { mir = erased; lft = κ })) 𝓤 H A W .typed (seen r u is t w is-t) _ (is-seen r u is t w is-t (record { mir = erased; lft = κ })) .0)) $
-        assigns ! (agg ! (and-then ! (load ! (from ! (stop !)) (look ! 7 refl)) (and-then ! (load ! (from ! (stop !)) (look ! 3 refl)) (no-more !)))) (from ! (stop !)) (init ! 17 refl (LL.lawful (S.the-type (namedLft 1 0 tt (κ, tt))) (S′.the-laws (namedLft 1 0 tt (κ, tt))) 𝓤 H A W .typed (made r u is t w is-t) _ (is-made r u is t w is-t) .0)) $
+        assigns ! (agg ! (and-then ! (load ! (from ! (stop !)) (look ! 5 refl)) (and-then ! (load ! (from ! (stop !)) (look ! 9 refl)) (and-then ! (load ! (from ! (stop !)) (look ! 11 refl)) (no-more !)))))
+        (from ! (stop !)) (init ! 3 refl (LL.lawful (T.the-type here) (T′.the-laws here) 𝓤 H A W .typed (seen r u is t w is-t) _ (is-seen r u is t w is-t here) .0)) $
+        assigns ! (agg ! (and-then ! (load ! (from ! (stop !)) (look ! 7 refl)) (and-then ! (load ! (from ! (stop !)) (look ! 3 refl)) (no-more !)))) (from ! (stop !)) (init ! 17 refl (LL.lawful
+        (S.the-type (namedLft 1 0 tt (κ, tt))) (S′.the-laws (namedLft 1 0 tt (κ, tt))) 𝓤 H A W .typed (made r u is t w is-t) _ (is-made r u is t w is-t) .0)) $
         returns ! (look ! 17 refl) $ forget ! 3 refl $ forget ! 5 refl $ forget ! 7 refl $ forget ! 9 refl $ forget ! 11 refl $ forget ! 13 refl $ forget ! 15 refl $ forget ! 17 refl $
-        move ! (17 ∷ 18 ∷ []) $ free1 ! $ move ! (15 ∷ 16 ∷ []) $ free1 ! $ move ! (13 ∷ 14 ∷ []) $ free1 ! $ move ! (11 ∷ 12 ∷ []) $ free1 ! $ move ! (9 ∷ 10 ∷ []) $ free1 ! $ move ! (7 ∷ 8 ∷ []) $ free1 ! $ move ! (5 ∷ 6 ∷ []) $ free1 ! $ move ! (3 ∷ 4 ∷ []) $ free1 ! $ free0 ! $
+        move ! (17 ∷ 18 ∷ []) $ free1 ! $ move ! (15 ∷ 16 ∷ []) $ free1 ! $ move ! (13 ∷ 14 ∷ []) $ free1 ! $ move ! (11 ∷ 12 ∷ []) $ free1 ! $ move ! (9 ∷ 10 ∷ []) $ free1 ! $ move ! (7 ∷ 8 ∷ []) $
+        free1 ! $ move ! (5 ∷ 6 ∷ []) $ free1 ! $ move ! (3 ∷ 4 ∷ []) $ free1 ! $ free0 ! $
         by ! (exits r u is t w is-t tested got)))))))))))))))))
 
 module _ {M : Type 1} (𝓤 : URA M) (H : Heap 𝓤) (A : Atoms 𝓤) (W : Given 𝓤 H A) (mem : Memory → SProp 𝓤) (run : Routine → Fun 𝓤) where
   look-walks : (C : Calls 𝓤 H) (Λ : Loops 𝓤 H) → FmC 𝓤 H (W .laws) C → Triple 𝓤 (C #check-view) (Check 𝓤 H A mem run) → Triple 𝓤 (C #records-of) (RecordsOf 𝓤 H A mem run)
       → Walks 𝓤 H A it.ended stayed (WpFn 𝓤 H C Λ code.function) (it.clauses 𝓤 H A mem run)
-  look-walks C Λ fm known-check known-of = walked 𝓤 H A it.ended stayed (it.clauses 𝓤 H A mem run) (WpFn 𝓤 H C Λ code.function) (λ κs. (slice-vals, (uint-vals w64, (uint-vals w16, (uint-vals w16, tt))))) (λ κs. (shr-slice-tells (named 0) (κs .0) u8, (uint-tells w64, (uint-tells w16, (uint-tells w16, tt)))))
+  look-walks C Λ fm known-check known-of =
+      walked 𝓤 H A it.ended stayed (it.clauses 𝓤 H A mem run) (WpFn 𝓤 H C Λ code.function) (λ κs. (slice-vals, (uint-vals w64, (uint-vals w16, (uint-vals w16, tt))))) (λ κs. (
+        shr-slice-tells
+            (named 0) (κs .0) u8,
+        (uint-tells w64, (uint-tells w16, (uint-tells w16, tt))),
+      ))
       (λ κs qs bounds a g are. via 𝓤 _ (fst∗ 𝓤 _ (emp 𝓤)) (walk 𝓤 H A W mem run (κs .0) (qs .0) (a .0) (a .1 .0) (a .1 .1 .0) (a .1 .1 .1 .0) (are .1 .0 .1) (are .1 .1 .0 .1) (are .1 .1 .1 .0 .1) C Λ fm known-check known-of (are .0)))
 
 look-meets : {M : Type 1} (𝓤 : URA M) (H : Heap 𝓤) (A : Atoms 𝓤) (W : Given 𝓤 H A) (mem : Memory → SProp 𝓤) (run : Routine → Fun 𝓤) (𝓣 : Tables 𝓤 H)
     → Triple 𝓤 (𝓣 .C #check-view) (Check 𝓤 H A mem run) → Triple 𝓤 (𝓣 .C #records-of) (RecordsOf 𝓤 H A mem run)
     → Meets 𝓤 H A it.signature (WpFn 𝓤 H (𝓣 .C) (𝓣 .Λ) code.function) (it.spec 𝓤 H A mem run)
-look-meets 𝓤 H A W mem run 𝓣 known-check known-of = walk-meets 𝓤 H A it.ended stayed W (goes-none-slice 𝓤 H A W 1 (0 ∷ []) tt (plain (λ _. u8)) yes, (goes-none 𝓤 H A W 1 (λ _. u64) yes (λ κs x f. refl), (goes-none 𝓤 H A W 1 (λ _. u16) yes (λ κs x f. refl), (goes-none 𝓤 H A W 1 (λ _. u16) yes (λ κs x f. refl), tt)))) (it.clauses 𝓤 H A mem run) (WpFn 𝓤 H (𝓣 .C) (𝓣 .Λ) code.function) (WpFn-mono 𝓤 H (W .laws) 𝓣 code.function)
+look-meets 𝓤 H A W mem run 𝓣 known-check known-of =
+    walk-meets 𝓤 H A it.ended stayed W (
+      goes-none-slice 𝓤 H A W 1 (0 ∷ []) tt (plain (λ _. u8)) yes,
+      (
+        goes-none 𝓤 H A W 1 (λ _. u64) yes (λ κs x f. refl),
+        (
+          goes-none 𝓤 H A W 1 (λ _. u16) yes
+              (λ κs x f. refl),
+          (goes-none 𝓤 H A W 1 (λ _. u16) yes (λ κs x f. refl), tt),
+        ),
+      ),
+    ) (it.clauses 𝓤 H A mem run) (WpFn 𝓤 H (𝓣 .C) (𝓣 .Λ) code.function) (WpFn-mono 𝓤 H (W .laws) 𝓣 code.function)
     (look-walks 𝓤 H A W mem run (𝓣 .C) (𝓣 .Λ) (fmOf 𝓤 H (W .laws) 𝓣) known-check known-of)
 
 pub look-spec : {M : Type 1} → stated.statement M
