@@ -140,12 +140,12 @@ module _ (q : Request) (recs : List ℕ) (d : ℕ) where
   records-kids (m ∷ k ∷ ms) h s r = rw (s .0, one-mul, records-kids (k ∷ ms) (omega arith) (s .1) (r + m + 1))
 
   module _ (w t : ℕ) (e₁ : w ≡ countWidth (q .geometry)) (e : t ≡ totalWidth (q .geometry) d) where
-    pointer-at : (m j : ℕ) → pointer q recs d (subtree q d m) j ≡ pointerTo q w t (childAt q d m) j
+    pointer-at : (m j : ℕ) → pointer q d (subtree q d m) j ≡ pointerTo q w t (childAt q d m) j
     unfolding pointer pointerBytes address pointerTo
     pointer-at m j = rw (e₁, e, root-place q d j m)
 
     pointers-kids : (ms : List ℕ) → 0 < length ms → (j : ℕ)
-        → pointers q recs d (kidsOf (subtree q d) ms) j ≡ pointersTo q w t (childrenAt q d ms) j
+        → pointers q d (kidsOf (subtree q d) ms) j ≡ pointersTo q w t (childrenAt q d ms) j
     unfolding kidsOf pointers pointersTo childrenAt
     pointers-kids [] h j = absurd (not-suc-le-zero h)
     pointers-kids (m ∷ []) h j = pointer-at m j ∙ sym (append-nil _)

@@ -22,6 +22,17 @@ pub length-padded : (ns : ℕ) (b : List ℕ) → 4 + length b ≤ ns → length
 unfolding padded
 length-padded ns b h = rw (length-append, length-replicate, length-summed) (omega arith)
 
+module _ (q : Request) (d : ℕ) where
+  pub length-pointer : (t : Tree d) (j : ℕ) → length (pointer q d t j) ≡ pointerSizeTo (q .geometry) d
+  unfolding pointer pointerBytes
+  length-pointer t j = simp (length-append, le-length) (omega arith)
+
+  pub length-pointers : (ts : Kids (Tree d)) (j : ℕ) → length (pointers q d ts j) ≡ (between ts + 1) * pointerSizeTo (q .geometry) d
+  unfolding pointers between
+  length-pointers (last t) j = omega (arith, length-pointer t j)
+  length-pointers (more t ts) j =
+      rw (length-append, length-pointer t j, length-pointers ts (j + nodes d t)) (omega arith)
+
 module _ (q : Request) (recs : List ℕ) where
   -- There are m records from record r on.
   abbrev pub Room : ℕ → ℕ → Type 0
@@ -44,16 +55,6 @@ module _ (q : Request) (recs : List ℕ) where
   length-leaf n r h = omega (arith, length-range r n h)
 
   module _ (d : ℕ) where
-    pub length-pointer : (t : Tree d) (j : ℕ) → length (pointer q recs d t j) ≡ pointerSizeTo (q .geometry) d
-    unfolding pointer pointerBytes
-    length-pointer t j = simp (length-append, le-length) (omega arith)
-
-    pub length-pointers : (ts : Kids (Tree d)) (j : ℕ) → length (pointers q recs d ts j) ≡ (between ts + 1) * pointerSizeTo (q .geometry) d
-    unfolding pointers between
-    length-pointers (last t) j = omega (arith, length-pointer t j)
-    length-pointers (more t ts) j =
-        rw (length-append, length-pointer t j, length-pointers ts (j + nodes d t)) (omega arith)
-
     pub length-own : (ts : Kids (Tree d)) (r : ℕ) → Room r (sumKids (size d) ts + between ts)
         → length (ownRecords q recs d ts r) ≡ between ts * q .geometry .«record_size»
     unfolding ownRecords between sumKids
@@ -65,7 +66,7 @@ module _ (q : Request) (recs : List ℕ) where
         → length (internalBytes q recs d ts j r) ≡ 6 + between ts * q .geometry .«record_size» + (between ts + 1) * pointerSizeTo (q .geometry) d
     unfolding internalBytes
     length-internal ts j r h =
-        omega (arith, length-append (ownRecords q recs d ts r) (pointers q recs d ts j), length-own ts r h, length-pointers ts j)
+        omega (arith, length-append (ownRecords q recs d ts r) (pointers q d ts j), length-own ts r h, length-pointers q d ts j)
 
     -- The nodes of all children, if the image of each has its length.
     pub length-children : ((t : Tree d) (j r : ℕ) → Everywhere (Fit (q .geometry)) d t → Room r (size d t) → length (image q recs d t j r) ≡ nodes d t * q .geometry .«node_size»)

@@ -49,6 +49,16 @@ pointerBytes g d address records total =
 unfoldable pub address : Request → ℕ → ℕ
 address q j = q .start + j * q .geometry .«node_size»
 
+module _ (q : Request) where
+  -- The pointer to a subtree of depth d whose first node is node j.
+  unfoldable pub pointer : (d : ℕ) → Tree d → ℕ → List ℕ
+  pointer d t j = pointerBytes (q .geometry) d (address q (j + below d t)) (count d t) (size d t)
+
+  -- The pointers to the children, of depth d; the first node below is node j.
+  unfoldable pub pointers : (d : ℕ) → Kids (Tree d) → ℕ → List ℕ
+  pointers d (last t) j = pointer d t j
+  pointers d (more t ts) j = pointer d t j ++ pointers d ts (j + nodes d t)
+
 -- The nodes of a write of the records recs.
 module _ (q : Request) (recs : List ℕ) where
   -- Records r to r + n - 1 of the list.
@@ -59,15 +69,6 @@ module _ (q : Request) (recs : List ℕ) where
   unfoldable pub leafBytes : ℕ → ℕ → List ℕ
   leafBytes n r = leafSignature ++ (0 ∷ q .«tree_type» ∷ recordRange r n)
 
-  -- The pointer to a subtree of depth d whose first node is node j.
-  unfoldable pub pointer : (d : ℕ) → Tree d → ℕ → List ℕ
-  pointer d t j = pointerBytes (q .geometry) d (address q (j + below d t)) (count d t) (size d t)
-
-  -- The pointers to the children, of depth d; the first node below is node j.
-  unfoldable pub pointers : (d : ℕ) → Kids (Tree d) → ℕ → List ℕ
-  pointers d (last t) j = pointer d t j
-  pointers d (more t ts) j = pointer d t j ++ pointers d ts (j + nodes d t)
-
   -- The node's own records; the first record below is record r.
   unfoldable pub ownRecords : (d : ℕ) → Kids (Tree d) → ℕ → List ℕ
   ownRecords d (last t) r = []
@@ -75,7 +76,7 @@ module _ (q : Request) (recs : List ℕ) where
 
   -- An internal node whose children have depth d; its first node below is node j, its first record below record r.
   unfoldable pub internalBytes : (d : ℕ) → Kids (Tree d) → ℕ → ℕ → List ℕ
-  internalBytes d ts j r = internalSignature ++ (0 ∷ q .«tree_type» ∷ (ownRecords d ts r ++ pointers d ts j))
+  internalBytes d ts j r = internalSignature ++ (0 ∷ q .«tree_type» ∷ (ownRecords d ts r ++ pointers q d ts j))
 
   -- The nodes of the children, one child after another, each made by f.
   unfoldable pub kidsImage : (d : ℕ) → (Tree d → ℕ → ℕ → List ℕ) → Kids (Tree d) → ℕ → ℕ → List ℕ

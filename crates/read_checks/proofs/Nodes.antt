@@ -50,6 +50,3 @@ module _ (file signature : List ℕ) (a : ℕ) where
 module _ (file signature : List ℕ) (a : ℕ) (front : Verdict) (code : verdictOf front ≡ frontTest file signature a) (begun : front ≡ Accepted) where
   pub front-there : a + 6 ≤ length file
   front-there = passing.front-there file signature a [] (sym code ∙ ap verdictOf begun)
-
-  pub front-fits : length file < 2 ^ 64 → Fits w64 (a + 6)
-  front-fits h = omega (arith, front-there)

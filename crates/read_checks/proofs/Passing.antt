@@ -26,9 +26,6 @@ pub passed-both : (first next : Answer) (figures : List ℕ) → onAccepted firs
 passed-both (accepted f) next figures e = (f, refl, e)
 passed-both (refused number values) next figures e = ([], cc, cc)
 
-pub needs-fits : (e l : ℕ) (rest : Answer) → e ≤ l → needs e l rest ≡ rest
-needs-fits e l rest h = rw (le-leb e l h)
-
 pub same-refl : (xs : List ℕ) → same xs xs ≡ true
 unfolding same
 same-refl [] = refl

@@ -41,7 +41,7 @@ module _ (q : Request) (recs file : List ℕ) where
     pub leaf : (n r a : ℕ) → Room q recs r n → Stand file a (summed (leafBytes q recs n r)) → tests .leaf a n ≡ accepted []
     pub internal : (d : ℕ) (ts : Kids (Tree d)) (j r a : ℕ) → Room q recs r (sumKids (size d) ts + between ts)
         → Stand file a (summed (internalBytes q recs d ts j r)) → tests .internal d a (between ts) ≡ accepted []
-    pub child : (d : ℕ) (t : Tree d) (j p : ℕ) → Fit g d t → Stand file p (pointer q recs d t j)
+    pub child : (d : ℕ) (t : Tree d) (j p : ℕ) → Fit g d t → Stand file p (pointer q d t j)
         → tests .child d p (size d t) ≡ accepted []
 
   -- A node in the file: its signature, and what follows the first six bytes and ends before the checksum.
@@ -79,7 +79,7 @@ module _ (q : Request) (recs file : List ℕ) where
         → Stand file a (summed (internalBytes q recs d ts j r)) → internalTest file (g .«record_size») (g .«offset_size») (pointerSizeTo g d) a (between ts) ≡ accepted []
     unfolding internalTest internalBody internalBytes
     internal-passes d ts j r a h st =
-        let s = node-stands internalSignature (ownRecords q recs d ts r ++ pointers q recs d ts j) a refl st in
+        let s = node-stands internalSignature (ownRecords q recs d ts r ++ pointers q d ts j) a refl st in
         let l = length-internal q recs d ts j r h in
         let end = recordsEnd (g .«record_size») (between ts) in
         let there : end + (between ts + 1) * pointerSizeTo g d ≤ length file - a = omega arith in
@@ -90,7 +90,7 @@ module _ (q : Request) (recs file : List ℕ) where
     collecting-passes = record { leaf = leaf-passes; internal = internal-passes; child = λ d t j p f h. refl }
 
   -- The pointer reads what was written.
-  module _ (d : ℕ) (t : Tree d) (j p : ℕ) (h : Stand file p (pointer q recs d t j)) where
+  module _ (d : ℕ) (t : Tree d) (j p : ℕ) (h : Stand file p (pointer q d t j)) where
     pointer-parts : Stand file p (le (g .«offset_size») (address q (j + below d t))) × Stand file (p + g .«offset_size») (le (countWidth g) (count d t) ++ le (totalWidth g d) (size d t))
     unfolding pointer pointerBytes
     pointer-parts = stand-split file p (le (g .«offset_size») (address q (j + below d t))) _ (p + g .«offset_size») (rw le-length) h
@@ -132,7 +132,7 @@ module _ (q : Request) (recs file : List ℕ) where
       unfolding pointerPlace
       place-next i = omega arith
 
-      child-sound : (t : Tree d) (i j r : ℕ) → Imaged d t j r → Stand file (pointerTo g d a n i) (pointer q recs d t j)
+      child-sound : (t : Tree d) (i j r : ℕ) → Imaged d t j r → Stand file (pointerTo g d a n i) (pointer q d t j)
           → ChildSound file g tests d a n (Sound file g tests d) t i
           × (treeBytes file g d t (addressIn file g (pointerTo g d a n i)) ≡ recordRange q recs r (size d t))
       child-sound t i j r m h =
@@ -145,7 +145,7 @@ module _ (q : Request) (recs file : List ℕ) where
       children-sound : (ts : Kids (Tree d)) (i j r : ℕ) → AllKids (Everywhere (Fit g) d) ts
           → Room q recs r (sumKids (size d) ts + between ts) → address q (j + sumKids (nodes d) ts) < 256 ^ g .«offset_size»
           → Stand file (address q j) (kidsImage q recs d (image q recs d) ts j r)
-          → Stand file (a + 6 + i * g .«record_size») (ownRecords q recs d ts r) → Stand file (pointerTo g d a n i) (pointers q recs d ts j)
+          → Stand file (a + 6 + i * g .«record_size») (ownRecords q recs d ts r) → Stand file (pointerTo g d a n i) (pointers q d ts j)
           → ChildrenSound file g tests d a n (Sound file g tests d) ts i
           × (childrenBytes file g d a n (treeBytes file g d) ts i ≡ recordRange q recs r (sumKids (size d) ts + between ts))
       unfolding sumKids between nodes kidsImage ownRecords pointers childrenBytes
@@ -156,7 +156,7 @@ module _ (q : Request) (recs file : List ℕ) where
           let len = length-range q recs (r + size d t) 1 (omega arith) in
           let im2 = stand-split file (address q j) (image q recs d t j r) _ (address q (j + nodes d t)) (rw (length-image q recs d t j r (f .0) (omega arith)) (address-add j (nodes d t))) im in
           let own2 = stand-split file (a + 6 + i * g .«record_size») (recordRange q recs (r + size d t) 1) _ (a + 6 + (i + 1) * g .«record_size») (omega arith) own in
-          let ps2 = stand-split file (pointerTo g d a n i) (pointer q recs d t j) _ (pointerTo g d a n (i + 1)) (rw length-pointer (place-next i)) ps in
+          let ps2 = stand-split file (pointerTo g d a n i) (pointer q d t j) _ (pointerTo g d a n (i + 1)) (rw length-pointer (place-next i)) ps in
           let first = child-sound t i j r (record { fits = f .0; room = omega arith; reach = address-before j _ _ (omega arith) l; stands = im2 .0 }) (ps2 .0) in
           let others = children-sound ts (i + 1) (j + nodes d t) (r + size d t + 1) (f .1) (omega arith) (rw add-assoc l) (im2 .1) (own2 .1) (ps2 .1) in
           ((first .0, others .0), rw (first .1, rw (len, one-mul) at (own2 .0), others .1, range-add, range-add, between-one))
@@ -172,7 +172,7 @@ module _ (q : Request) (recs file : List ℕ) where
     image-sound (suc d) ts j r m =
         let a = address q (j + sumKids (nodes d) ts) in
         let own = ownRecords q recs d ts r in
-        let ps = pointers q recs d ts j in
+        let ps = pointers q d ts j in
         let im2 = stand-split file (address q j) (kidsImage q recs d (image q recs d) ts j r) (padded (g .«node_size») (internalBytes q recs d ts j r)) a
         (rw (length-children q recs d (length-image q recs d) ts j r (m .fits .1) (m .room)) (address-add j (sumKids (nodes d) ts))) (m .stands) in
         let st = stand-left file a (summed (internalBytes q recs d ts j r)) _ (im2 .1) in
