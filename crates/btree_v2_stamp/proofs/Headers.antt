@@ -1,10 +1,10 @@
 -- Filling the header, field after field.
 use mathlib.Core.Path.{_≡_, refl, sym, _∙_}
 use mathlib.Core.List.{List, [], _∷_, _++_, append-assoc, append-nil}
-use Prim.Native.Nat.{ℕ, _+_, _-_, _^_, _≤_, _<_}
+use Prim.Native.Nat.{ℕ, _+_, _-_, _≤_, _<_}
 use native.Mathlib.Omega.{arith}
 use lib.ListN.{length, length-append}
-use Rattle.numbers.specs.Numbers.{le, saturated}
+use Rattle.numbers.specs.Numbers.{le}
 use Rattle.numbers.specs.Places.{stored, put}
 use Rattle.numbers.proofs.Lists.{length-stored, put-fits, put-not}
 use Rattle.numbers.proofs.Numbers.{le-length}

@@ -10,7 +10,7 @@ use Rattle.numbers.proofs.Lists.{length-part, part-add}
 use Rattle.numbers.proofs.Numbers.{le-length}
 use Rattle.plan.specs.Tree.{Kids, last, more, Tree, sumKids, between, count, size, below, nodes, AllKids, Everywhere}
 use Rattle.format.specs.Bytes.{summed, padded, pointerBytes, recordRange, leafBytes, pointer, pointers, ownRecords, internalBytes, kidsImage, image}
-use Rattle.node_info.specs.Capacity.{childPointerSize, pointerSizeTo}
+use Rattle.node_info.specs.Capacity.{pointerSizeTo}
 use Rattle.format.specs.declared.Request.{Request}
 use Rattle.format.specs.Fit.{Fit}
 

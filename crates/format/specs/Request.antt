@@ -1,5 +1,5 @@
 -- The bytes that a write of a request makes: its nodes, its root and its header. From document 01, "Header and node image".
-use Prim.Native.Nat.{ℕ, _-_}
+use Prim.Native.Nat.{ℕ}
 use mathlib.Core.List.{List}
 use Rattle.plan.specs.Tree.{Tree, count, below, nodes}
 use Rattle.plan.specs.Planned as planner

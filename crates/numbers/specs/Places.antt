@@ -1,5 +1,5 @@
 -- What a buffer holds after bytes were put at a place of it: document 01, "Header and node image" (bytes of a longer buffer stay).
-use Prim.Native.Nat.{ℕ, _+_, _-_}
+use Prim.Native.Nat.{ℕ, _+_}
 use mathlib.Core.List.{List, _++_}
 use lib.ListN.{length, drop, take}
 use lib.Dec.{leb}

@@ -1,5 +1,5 @@
 -- An answer in document 01's terms, and the number and values that it gives to each cause ("Causes and numbers").
-use Prim.Native.Nat.{ℕ, _-_}
+use Prim.Native.Nat.{ℕ}
 use mathlib.Core.List.{List, [], _∷_, _++_}
 use mathlib.Core.Bool.{Bool, true, false}
 use lib.ListN.{take, replicate}

@@ -2,7 +2,7 @@
 -- header and its nodes stand.
 use mathlib.Core.Path.{_≡_}
 use mathlib.Core.List.{List}
-use Prim.Native.Nat.{ℕ, _+_, _*_, _≤_, _<_}
+use Prim.Native.Nat.{ℕ, _*_, _≤_, _<_}
 use lib.ListN.{length}
 use Rattle.numbers.specs.Numbers.{part}
 use Rattle.refusal.specs.Answer.{accepted}

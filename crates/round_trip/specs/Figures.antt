@@ -10,7 +10,6 @@ use Rattle.node_info.specs.Table.{infoAt}
 use Rattle.plan.specs.Tree.{Kids, last, more, Tree, size}
 use Rattle.plan.specs.Planned.{planDepth, planned, planAnswer}
 use Rattle.format.specs.Request.{headerOf}
-use Rattle.format.specs.declared.Request.{Request}
 use Rattle.round_trip.specs.Nodes.{counts}
 
 -- The numbers of the records between children, if the first child's records begin with record r and each has size s.

@@ -1,5 +1,5 @@
 -- The own records of a plan's nodes by their numbers, children first, root last. From document 01, "Planner" and "Header and node image".
-use Prim.Native.Nat.{ℕ, zero, suc, _+_, _*_}
+use Prim.Native.Nat.{ℕ, zero, suc, _+_}
 use mathlib.Core.List.{List, [], _∷_, _++_}
 use lib.ListN.{getD}
 use Rattle.plan.specs.Tree.{Kids, last, more, Tree, between}

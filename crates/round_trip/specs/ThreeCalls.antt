@@ -3,7 +3,7 @@
 use mathlib.Core.Path.{_≡_}
 use mathlib.Core.List.{List, [], _∷_}
 use Prim.Native.Nat.{ℕ, _+_, _-_, _*_, _≤_}
-use lib.ListN.{length, getD, take, drop}
+use lib.ListN.{length, take, drop}
 use Rattle.numbers.specs.Numbers.{part}
 use Rattle.refusal.specs.Answer.{Answer, accepted, refused, refusalOf, verdictOf}
 use Rattle.plan.specs.declared.BTreeV2Plan.{BTreeV2Plan}

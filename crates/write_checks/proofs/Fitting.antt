@@ -5,7 +5,7 @@ use Prim.Native.Nat.{ℕ, zero, suc, _*_, _≤_, _<_}
 use native.Mathlib.Nat.{le-refl, le-trans, zero-add, mul-le-mul-left}
 use native.Mathlib.Omega.{arith}
 use lib.ListN.{length}
-use Rattle.node_info.specs.Capacity.{leafCapacity, subtreeCapacity, nodeCapacity, childPointerSize}
+use Rattle.node_info.specs.Capacity.{leafCapacity, subtreeCapacity, nodeCapacity}
 use Rattle.node_info.proofs.Capacities.{node-le-leaf, count-fits, total-fits, leaf-bytes, internal-bytes}
 use Rattle.plan.specs.Tree.{Tree, count, size, Everywhere}
 use Rattle.plan.specs.Planned.{planned}

@@ -1,7 +1,7 @@
 -- What a write leaves in its two outputs: the bytes of an accepted one, and all as it was where it is refused.
 use mathlib.Core.Path.{_≡_}
 use mathlib.Core.List.{List}
-use Prim.Native.Nat.{ℕ, _-_}
+use Prim.Native.Nat.{ℕ}
 use Rattle.refusal.specs.Answer.{accepted, refused}
 use Rattle.numbers.specs.Places.{over}
 use Rattle.format.specs.declared.Request.{Request}

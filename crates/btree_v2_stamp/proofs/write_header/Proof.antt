@@ -1,7 +1,6 @@
 -- No room, or the fixed part, three fields and the checksum, each after the one before.
 use Rattle.btree_v2_stamp.proofs.Headers.{header-short, header-put}
 use borrow.Author.Needs.{needs}
-use native.Mathlib.Omega.{arith}
 use Rattle.btree_v2_stamp.proofs.write_header.Statement.{statement}
 use Rattle.btree_v2_stamp.proofs.write_header.Tie as tie
 

@@ -15,8 +15,8 @@ use Rattle.btree_v2_write.proofs.subtree.+write_subtree.Tie.{close}
 use native.Mathlib.Omega.{arith}
 use lib.ListN.{length}
 use borrow.Author.Needs.{needs}
-use Rattle.btree_v2_write.proofs.Subtrees.{leaf-room, leaf-fits, leaf-done, Distribution, base-few, kept-small, width-small, node-fits, record-fits, share-few, first-asked}
-use Rattle.btree_v2_write.proofs.Subtrees.{now-distributed, first-next-fits, first-record-fits, first-after-fits, loop-start, KidsLeft, turn-fits, kid-ready, kid-next-fits, kid-record-fits, kid-after-fits, loop-turn}
+use Rattle.btree_v2_write.proofs.Subtrees.{leaf-room, leaf-fits, leaf-done, Distribution, base-few, width-small, node-fits, share-few, first-asked}
+use Rattle.btree_v2_write.proofs.Subtrees.{first-next-fits, first-record-fits, first-after-fits, loop-start, KidsLeft, turn-fits, kid-ready, kid-next-fits, kid-record-fits, kid-after-fits, loop-turn}
 use Rattle.btree_v2_write.proofs.Subtrees.{record-is, next-is, next-least, root-fits, root-room, root-done}
 
 abbrev μ-write-subtree : Measures 4 write-subtree-kinds.ps ℕ
