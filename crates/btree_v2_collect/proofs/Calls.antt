@@ -1,19 +1,24 @@
 -- The whole call: nothing to read, its two refusals, and the walk from the root on.
 use mathlib.Core.Path.{_≡_, refl, sym, ap, _∙_}
 use mathlib.Core.List.{List, _++_}
-use Prim.Native.Nat.{ℕ, _*_, _^_, _≤_, _<_, zero-le}
+use Prim.Native.Nat.{ℕ, _+_, _*_, _^_, _≤_, _<_, zero-le}
 use native.Mathlib.Nat.{zero-mul}
 use native.Mathlib.Omega.{arith}
+use native.Mathlib.Numerals.{add-one}
 use lib.Dec.{leb}
+use lib.ListN.{length, set, replicate, List·getD-append}
 use borrow.Author.Tests.{le-leb}
 use Rattle.numbers.specs.Numbers.{pick}
+use Rattle.numbers.specs.Places.{put}
+use Rattle.numbers.proofs.Lists.{stored-is, put-fits}
 use Rattle.numbers.proofs.Numbers.{saturated-small}
+use Rattle.node_info.specs.Capacity.{totalWidth}
 use Rattle.refusal.specs.declared.Refusal.the-variants.{ZeroRecordSize, DepthAboveLimit}
 use Rattle.refusal.specs.Answer.{cells, verdictOf}
 use Rattle.refusal.proofs.Answers.{refused-is}
 use Rattle.node_info.specs.declared.NodeInfo.{NodeInfo}
 use Rattle.node_info.specs.Table.{infoAt, noInfo}
-use Rattle.node_info.proofs.Columns.{total-entry}
+use Rattle.node_info.proofs.Columns.{column-length, total-entry}
 use Rattle.btree_v2_collect.specs.Walk.{Run, fine, stopped, noCounts, nodeRun}
 use Rattle.btree_v2_collect.specs.Collect.{collected, collectTests, countCells, runCells, runOutput}
 use Rattle.btree_v2_collect.proofs.Outcomes.{collected-none, collected-root-none, collected-8, collected-16, collected-walk}
@@ -21,10 +26,10 @@ use Rattle.btree_v2_header.specs.declared.BTreeV2Header.{BTreeV2Header}
 use Rattle.refusal.specs.declared.Verdict.{Verdict}
 use Rattle.refusal.specs.declared.Verdict.the-variants.{Accepted, Refused}
 use Rattle.btree_v2_collect.specs.declared.Tally.{Tally}
-use Rattle.btree_v2_internal.specs.declared.Sizes.{Sizes}
 use Rattle.btree_v2_collect.specs.Answers.{Ends}
 use Rattle.btree_v2_collect.specs.Collecting.{countsOf, tallyOf, runOf, saturatedRun, Readable, RootRead, Walked}
 use Rattle.btree_v2_collect.proofs.Holding.{saturated-saturated}
+use Rattle.node_info.specs.declared.Geometry.{Geometry}
 
 -- Held counts or exact ones: the same cells and output.
 cells-saturated : (x : Run) → runCells (saturatedRun x) ≡ runCells x
@@ -53,9 +58,9 @@ pub record Small (r : Tally) : Type 0 where
   pub internals : r .internals < 2 ^ 64
   pub internalRecords : r .«internal_records» < 2 ^ 64
 
-walked-ends : (z : Sizes) (x : Run) (v : Verdict) (t o : List ℕ) → Walked z x v t o → (r : Tally) → r ≡ tallyOf t → Small r
+walked-ends : (g : Geometry) (x : Run) (v : Verdict) (t o : List ℕ) → Walked g x v t o → (r : Tally) → r ≡ tallyOf t → Small r
     → Ends x (record { verdict = v; tally = r }) o
-walked-ends z x v t o walked r e small =
+walked-ends g x v t o walked r e small =
     let count = cells-of v t o in
     let fit : Small (tallyOf t) = rw e at small in
     rw e (
@@ -92,30 +97,41 @@ module _ (file : List ℕ) (h : BTreeV2Header) (o : List ℕ) where
 pub none-within : (size room : ℕ) → 0 * size ≤ room
 none-within size room = rw zero-mul zero-le
 
--- The sizes that the table gives, and the walk by them from the root on.
+-- The widths that the table gives, and the walk by them from the root on.
 module _ {h : BTreeV2Header} (read : RootRead h) (info : NodeInfo)
     (table : info ≡ pick (leb (h .depth) 32) (infoAt (h .geometry) (h .depth)) noInfo) where
-  abbrev sizes : Sizes
-  sizes = record { geometry = h .geometry; «count_size» = info .«max_nrec_size» }
-
   table-is : info ≡ infoAt (h .geometry) (h .depth)
   table-is = rw (le-leb (h .depth) 32 (read .deep)) at table
 
-  pub root-readable : Readable sizes (info .«cum_max_nrec_size») (h .depth)
+  abbrev counts : ℕ
+  counts = info .«max_nrec_size»
+
+  abbrev totals : List ℕ
+  totals = info .«cum_max_nrec_size»
+
+  totals-long : length totals ≡ 33
   unfolding infoAt
-  root-readable =
+  totals-long = rw (table-is, column-length (totalWidth (h .geometry)) (h .depth))
+
+  pub root-readable : (l : List ℕ) → l ≡ put (set (replicate 34 0) 0 counts) 1 totals → Readable (h .geometry) l (h .depth)
+  unfolding infoAt
+  root-readable l e =
+      let fits : 1 + length totals ≤ length (set (replicate 34 0) 0 counts) = omega (arith, totals-long) in
+      let whole = e ∙ put-fits (set (replicate 34 0) 0 counts) 1 totals fits ∙ stored-is _ _ _ in
       record {
         some = omega (arith, read .sized);
         deep = read .deep;
-        counts = rw table-is;
-        totals = λ u k. total-entry (h .geometry) (h .depth) info table-is u k (read .deep);
+        counts = rw (whole, table-is);
+        totals = λ u k.
+            rw (whole, add-one u, List·getD-append totals _ 0 u (omega (arith, totals-long, read .deep)))
+            (total-entry (h .geometry) (h .depth) info table-is u k (read .deep));
       }
 
   -- A node at address a with n records is the root.
   pub root-walked : (file o : List ℕ) (a n : ℕ) (v : Verdict) (t o1 : List ℕ)
-      → Walked sizes (nodeRun file (h .geometry) (collectTests file (h .geometry)) (h .depth) a n noCounts o) v t o1
+      → Walked (h .geometry) (nodeRun file (h .geometry) (collectTests file (h .geometry)) (h .depth) a n noCounts o) v t o1
       → a ≡ h .«root_node_address» → n ≡ h .«num_records_in_root» → (r : Tally) → r ≡ tallyOf t → Small r
       → Ends (collected file h o) (record { verdict = v; tally = r }) o1
   root-walked file o a n v t o1 walked address records r e small =
       rw (collected-walk file h o (read .some) (read .root) (read .sized) (read .deep))
-      (walked-ends sizes _ v t o1 (rw (address, records) at walked) r e small)
+      (walked-ends (h .geometry) _ v t o1 (rw (address, records) at walked) r e small)

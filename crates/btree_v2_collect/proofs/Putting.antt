@@ -16,9 +16,9 @@ use Rattle.btree_v2_collect.proofs.Outcomes.{put-some}
 use Rattle.btree_v2_collect.proofs.Puts.{puts-records}
 use Rattle.refusal.specs.declared.Refusal.the-variants.{OutputTooShort}
 use Rattle.refusal.specs.declared.Verdict.the-variants.{Accepted, Refused}
-use Rattle.btree_v2_internal.specs.declared.Sizes.{Sizes}
 use Rattle.btree_v2_collect.specs.Collecting.{countsOf, saturatedCounts, Within, Walked}
 use Rattle.btree_v2_collect.proofs.Holding.{saturated-saturated}
+use Rattle.node_info.specs.declared.Geometry.{Geometry}
 
 -- One more of a tally's counts.
 module _ (t : List ℕ) (x : ℕ) where
@@ -50,48 +50,48 @@ module _ (n k room : ℕ) (some : 0 < k) where
   )
 
 -- `put_records`.
-module _ (file : List ℕ) (z : Sizes) (from n : ℕ) (t o : List ℕ) (some : 0 < z .geometry .«record_size»)
-    (there : from + n * z .geometry .«record_size» ≤ length file) (within : Within z t o) (fit : ℕ)
-    (fits : Fitting n (z .geometry .«record_size») (length o - getD t 0 0 * z .geometry .«record_size») fit) where
+module _ (file : List ℕ) (g : Geometry) (from n : ℕ) (t o : List ℕ) (some : 0 < g .«record_size»)
+    (there : from + n * g .«record_size» ≤ length file) (within : Within g t o) (fit : ℕ)
+    (fits : Fitting n (g .«record_size») (length o - getD t 0 0 * g .«record_size») fit) where
   -- What fits is there, and has room; so the count of records fits a word.
-  pub part-there : from + fit * z .geometry .«record_size» ≤ length file
-  part-there = omega (arith, mul-le-mul-right (z .geometry .«record_size») (fits .0))
+  pub part-there : from + fit * g .«record_size» ≤ length file
+  part-there = omega (arith, mul-le-mul-right (g .«record_size») (fits .0))
 
-  part-room : getD t 0 0 * z .geometry .«record_size» + fit * z .geometry .«record_size» ≤ length o
+  part-room : getD t 0 0 * g .«record_size» + fit * g .«record_size» ≤ length o
   part-room = omega (arith, fits .1)
 
-  records : (getD t 0 0 + fit) * z .geometry .«record_size» ≤ length o
+  records : (getD t 0 0 + fit) * g .«record_size» ≤ length o
   records = rw add-mul part-room
 
   pub records-few : length o < 2 ^ 64 → Fits w64 (getD t 0 0 + fit)
-  records-few h = omega (arith, records, le-mul-of-pos-right {m = z .geometry .«record_size»} (getD t 0 0 + fit) some)
+  records-few h = omega (arith, records, le-mul-of-pos-right {m = g .«record_size»} (getD t 0 0 + fit) some)
 
   module _ (o1 : List ℕ)
-      (put : o1 ≡ put o (getD t 0 0 * z .geometry .«record_size») (part file from (from + fit * z .geometry .«record_size» - from))) where
-    records-stored : o1 ≡ stored o (getD t 0 0 * z .geometry .«record_size») (part file from (fit * z .geometry .«record_size»))
-    records-stored = part-put o file o1 (getD t 0 0 * z .geometry .«record_size») from (fit * z .geometry .«record_size») part-room part-there put
+      (put : o1 ≡ put o (getD t 0 0 * g .«record_size») (part file from (from + fit * g .«record_size» - from))) where
+    records-stored : o1 ≡ stored o (getD t 0 0 * g .«record_size») (part file from (fit * g .«record_size»))
+    records-stored = part-put o file o1 (getD t 0 0 * g .«record_size») from (fit * g .«record_size») part-room part-there put
 
     long : length o1 ≡ length o
     long =
-        rw (records-stored, length-stored o (getD t 0 0 * z .geometry .«record_size») (part file from (fit * z .geometry .«record_size»)) (rw (length-part file from (fit * z .geometry .«record_size») part-there) part-room))
+        rw (records-stored, length-stored o (getD t 0 0 * g .«record_size») (part file from (fit * g .«record_size»)) (rw (length-part file from (fit * g .«record_size») part-there) part-room))
 
     abbrev counted : List ℕ
     counted = (getD t 0 0 + fit) ∷ getD t 1 0 ∷ getD t 2 0 ∷ getD t 3 0 ∷ []
 
-    runs : putRecords file (z .geometry) fit from (countsOf t) o ≡ fine (countsOf counted) o1
-    runs = rw records-stored (simp add-zero at (puts-records file (z .geometry) fit from part-there .runs (countsOf t) o records))
+    runs : putRecords file g fit from (countsOf t) o ≡ fine (countsOf counted) o1
+    runs = rw records-stored (simp add-zero at (puts-records file g fit from part-there .runs (countsOf t) o records))
 
     pub put-all : n ≤ fit
-        → Walked z (putRecords file (z .geometry) n from (countsOf t) o) Accepted counted o1
+        → Walked g (putRecords file g n from (countsOf t) o) Accepted counted o1
     put-all h =
         let e : n ≡ fit = omega (arith, fits .0) in
         record { ends = rw (e, runs); within = rw long records }
 
     pub put-part : fit < n
-        → Walked z (putRecords file (z .geometry) n from (countsOf t) o) (Refused (OutputTooShort (length o1))) counted o1
+        → Walked g (putRecords file g n from (countsOf t) o) (Refused (OutputTooShort (length o1))) counted o1
     put-part h =
-        let short : length o1 < (getD t 0 0 + fit + 1) * z .geometry .«record_size» = rw long (omega (arith, fits .2 h)) in
+        let short : length o1 < (getD t 0 0 + fit + 1) * g .«record_size» = rw long (omega (arith, fits .2 h)) in
         record {
-          ends = rw (put-some file (z .geometry) fit n from (countsOf t) (countsOf counted) o o1 h runs short);
+          ends = rw (put-some file g fit n from (countsOf t) (countsOf counted) o o1 h runs short);
           within = rw long records;
         }

@@ -11,7 +11,6 @@ use Rattle.btree_v2_collect.specs.Walk.{Counts, Run, fine, stopped, andT
 use Rattle.node_info.specs.declared.Geometry.{Geometry}
 use Rattle.refusal.specs.declared.Verdict.{Verdict}
 use Rattle.refusal.specs.declared.Verdict.the-variants.{Accepted, Refused}
-use Rattle.btree_v2_internal.specs.declared.Sizes.{Sizes}
 use Rattle.btree_v2_internal.specs.declared.Node.{Node}
 use Rattle.btree_v2_collect.specs.Collecting.{countsOf, runOf, saturatedCounts, saturatedRun, Readable, Within, NodeThere, ChildAt, ChildrenLeft, Walked}
 use Rattle.refusal.proofs.Answers.{refused-is}
@@ -19,15 +18,15 @@ use Rattle.btree_v2_collect.proofs.Holding.{Alike, from-saturated, reco
 use Rattle.btree_v2_collect.proofs.Walking.{Step}
 
 -- Counting a leaf or an internal node puts nothing out.
-pub leaf-within : (z : Sizes) (t t1 o : List ℕ) → saturatedCounts (countsOf t1) ≡ saturatedCounts (oneLeaf (countsOf t)) → Within z t o → Within z t1 o
-leaf-within z t t1 o e h = rw (records-saturated (oneLeaf (countsOf t)) (countsOf t1) e) h
+pub leaf-within : (g : Geometry) (t t1 o : List ℕ) → saturatedCounts (countsOf t1) ≡ saturatedCounts (oneLeaf (countsOf t)) → Within g t o → Within g t1 o
+leaf-within g t t1 o e h = rw (records-saturated (oneLeaf (countsOf t)) (countsOf t1) e) h
 
-pub internal-within : (z : Sizes) (t t1 o : List ℕ) → saturatedCounts (countsOf t1) ≡ saturatedCounts (oneInternal (countsOf t)) → Within z t o
-    → Within z t1 o
-internal-within z t t1 o e h = rw (records-saturated (oneInternal (countsOf t)) (countsOf t1) e) h
+pub internal-within : (g : Geometry) (t t1 o : List ℕ) → saturatedCounts (countsOf t1) ≡ saturatedCounts (oneInternal (countsOf t)) → Within g t o
+    → Within g t1 o
+internal-within g t t1 o e h = rw (records-saturated (oneInternal (countsOf t)) (countsOf t1) e) h
 
 -- A step, and what follows it.
-module _ {next : Step} (alike : Alike next) {z : Sizes} {x : Run} {v : Verdict} {t o : List ℕ} (walked : Walked z x v t o) where
+module _ {next : Step} (alike : Alike next) {g : Geometry} {x : Run} {v : Verdict} {t o : List ℕ} (walked : Walked g x v t o) where
   after : saturatedRun (andThen x next) ≡ saturatedRun (andThen (runOf v t o) next)
   after =
       sym (alike-after alike x) ∙ ap (λ y. saturatedRun (andThen y next)) (sym (walked .ends)) ∙ alike-after alike (runOf v t o)
@@ -35,7 +34,7 @@ module _ {next : Step} (alike : Alike next) {z : Sizes} {x : Run} {v : Verdict} 
   go-on : v ≡ Accepted → saturatedRun (andThen x next) ≡ saturatedRun (next (countsOf t) o)
   go-on e = after ∙ rw e
 
-  hand-up : (q : Refusal) → v ≡ Refused q → Walked z (andThen x next) v t o
+  hand-up : (q : Refusal) → v ≡ Refused q → Walked g (andThen x next) v t o
   hand-up q e =
       let stays : andThen (runOf v t o) next ≡ runOf v t o = rw (e, refused-is q .2) in
       record { ends = sym (after ∙ ap saturatedRun stays); within = walked .within }
@@ -50,12 +49,12 @@ test-passes : (test : Answer) (v : Verdict) (c : Counts) (o : List ℕ) (x : Run
 test-passes test v c o x h e = rw (← h, e)
 
 -- The same walk, put otherwise.
-walked-as : {z : Sizes} {x y : Run} {v : Verdict} {t o : List ℕ} → saturatedRun x ≡ saturatedRun y → Walked z x v t o → Walked z y v t o
+walked-as : {g : Geometry} {x y : Run} {v : Verdict} {t o : List ℕ} → saturatedRun x ≡ saturatedRun y → Walked g x v t o → Walked g y v t o
 walked-as e walked = record { ends = walked .ends ∙ e; within = walked .within }
 
 -- An accepted answer, taken apart.
-pub walked-accepted : (z : Sizes) (x : Run) (v : Verdict) (t o : List ℕ) → v ≡ Accepted → Walked z x v t o → Walked z x Accepted t o
-walked-accepted z x v t o e walked = rw e at walked
+pub walked-accepted : (g : Geometry) (x : Run) (v : Verdict) (t o : List ℕ) → v ≡ Accepted → Walked g x v t o → Walked g x Accepted t o
+walked-accepted g x v t o e walked = rw e at walked
 
 then-same : (x : Run) (next : Counts → List ℕ → Run) → ((c : Counts) (o : List ℕ) → next c o ≡ fine c o) → andThen x next ≡ x
 then-same (fine c o) next h = h c o
@@ -106,9 +105,9 @@ pub second-falls : (k d left : ℕ) → falling d left ≡ k → (left ≡ 1 →
 second-falls k d left e more some = omega arith
 
 -- The first half of the children is asked as all of them are.
-pub first-asked : (file : List ℕ) (z : Sizes) (l : List ℕ) (d a n i left : ℕ) (t o : List ℕ) → ChildrenLeft file z l d a n i left t o
-    → (left ≡ 1 → ⊥) → ChildrenLeft file z l d a n i (left / 2) t o
-first-asked file z l d a n i left t o h more =
+pub first-asked : (file : List ℕ) (g : Geometry) (l : List ℕ) (d a n i left : ℕ) (t o : List ℕ) → ChildrenLeft file g l d a n i left t o
+    → (left ≡ 1 → ⊥) → ChildrenLeft file g l d a n i (left / 2) t o
+first-asked file g l d a n i left t o h more =
     record {
       readable = h .readable;
       there = h .there;
@@ -118,73 +117,73 @@ first-asked file z l d a n i left t o h more =
     }
 
 -- And so is the second half, after the record between.
-pub second-asked : (file : List ℕ) (z : Sizes) (l : List ℕ) (d a n i left : ℕ) (t o : List ℕ) → Readable z l d → NodeThere file (z .geometry) a n
-    → i + left ≤ n + 1 → 0 < left → (left ≡ 1 → ⊥) → Within z t o → ChildrenLeft file z l d a n (i + left / 2) (left - left / 2) t o
-second-asked file z l d a n i left t o readable there among some more within =
+pub second-asked : (file : List ℕ) (g : Geometry) (l : List ℕ) (d a n i left : ℕ) (t o : List ℕ) → Readable g l d → NodeThere file g a n
+    → i + left ≤ n + 1 → 0 < left → (left ≡ 1 → ⊥) → Within g t o → ChildrenLeft file g l d a n (i + left / 2) (left - left / 2) t o
+second-asked file g l d a n i left t o readable there among some more within =
     record { readable = readable; there = there; among = omega arith; some = omega arith; within = within }
 
 -- The walk by any tests; what the code tells of a test is its verdict.
-module _ (file : List ℕ) (z : Sizes) (tests : Tests) where
+module _ (file : List ℕ) (g : Geometry) (tests : Tests) where
   -- m + 1 children from child i on, with the records between them, of the internal node at a with n records whose children have level d.
   abbrev children : (d a n m i : ℕ) → Step
-  children d a n = childrenRun file (z .geometry) tests d a n (nodeRun file (z .geometry) tests d)
+  children d a n = childrenRun file g tests d a n (nodeRun file g tests d)
 
   -- A leaf.
   module _ (x : Node) (t o : List ℕ) (v : Verdict) (tested : verdictOf v ≡ tests .leaf (x .address) (x .records)) where
-    pub leaf-stops : (q : Refusal) → v ≡ Refused q → Within z t o
-        → Walked z (nodeRun file (z .geometry) tests 0 (x .address) (x .records) (countsOf t) o) v t o
+    pub leaf-stops : (q : Refusal) → v ≡ Refused q → Within g t o
+        → Walked g (nodeRun file g tests 0 (x .address) (x .records) (countsOf t) o) v t o
     unfolding nodeRun leafRun
     leaf-stops q e within = record { ends = sym (ap saturatedRun (test-stops _ v t o _ q tested e)); within = within }
 
     pub leaf-reads : (t1 : List ℕ) (v1 : Verdict) (t2 o1 : List ℕ) → v ≡ Accepted → saturatedCounts (countsOf t1) ≡ saturatedCounts (oneLeaf (countsOf t))
-        → Walked z (putRecords file (z .geometry) (x .records) (x .address + 6) (countsOf t1) o) v1 t2 o1
-        → Walked z (nodeRun file (z .geometry) tests 0 (x .address) (x .records) (countsOf t) o) v1 t2 o1
+        → Walked g (putRecords file g (x .records) (x .address + 6) (countsOf t1) o) v1 t2 o1
+        → Walked g (nodeRun file g tests 0 (x .address) (x .records) (countsOf t) o) v1 t2 o1
     unfolding nodeRun leafRun
     leaf-reads t1 v1 t2 o1 e counts =
         walked-as
-        (from-saturated (puts-alike file (z .geometry) (x .records) (x .address + 6)) (oneLeaf (countsOf t)) (countsOf t1) o counts
+        (from-saturated (puts-alike file g (x .records) (x .address + 6)) (oneLeaf (countsOf t)) (countsOf t1) o counts
         ∙ ap saturatedRun (sym (test-passes _ v (countsOf t) o _ tested e)))
 
   -- A node of level d.
   module _ (d a n : ℕ) (t o : List ℕ) where
-    pub node-leaf : (v : Verdict) (t1 o1 : List ℕ) → d ≡ 0 → Walked z (nodeRun file (z .geometry) tests 0 a n (countsOf t) o) v t1 o1
-        → Walked z (nodeRun file (z .geometry) tests d a n (countsOf t) o) v t1 o1
+    pub node-leaf : (v : Verdict) (t1 o1 : List ℕ) → d ≡ 0 → Walked g (nodeRun file g tests 0 a n (countsOf t) o) v t1 o1
+        → Walked g (nodeRun file g tests d a n (countsOf t) o) v t1 o1
     node-leaf v t1 o1 e walked = rw e walked
 
     module _ (v : Verdict) (above : d ≡ 0 → ⊥) (tested : verdictOf v ≡ tests .internal (d - 1) a n) where
-      internal-is : nodeRun file (z .geometry) tests d a n (countsOf t) o
+      internal-is : nodeRun file g tests d a n (countsOf t) o
           ≡ ifPassed (verdictOf v) (countsOf t) o (children (d - 1) a n n 0 (oneInternal (countsOf t)) o)
       unfolding nodeRun
       internal-is =
-          let f : d ≡ suc (d - 1) = omega arith in ap (λ k. nodeRun file (z .geometry) tests k a n (countsOf t) o) f ∙ rw (← tested)
+          let f : d ≡ suc (d - 1) = omega arith in ap (λ k. nodeRun file g tests k a n (countsOf t) o) f ∙ rw (← tested)
 
-      pub node-stops : (q : Refusal) → v ≡ Refused q → Within z t o → Walked z (nodeRun file (z .geometry) tests d a n (countsOf t) o) v t o
+      pub node-stops : (q : Refusal) → v ≡ Refused q → Within g t o → Walked g (nodeRun file g tests d a n (countsOf t) o) v t o
       node-stops q e within =
           record { ends = sym (ap saturatedRun (internal-is ∙ test-stops _ v t o _ q refl e)); within = within }
 
       module _ (e : v ≡ Accepted) where
         pub node-reads : (t1 : List ℕ) (v1 : Verdict) (t2 o1 : List ℕ) → saturatedCounts (countsOf t1) ≡ saturatedCounts (oneInternal (countsOf t))
-            → Walked z (children (d - 1) a n (n + 1 - 1) 0 (countsOf t1) o) v1 t2 o1
-            → Walked z (nodeRun file (z .geometry) tests d a n (countsOf t) o) v1 t2 o1
+            → Walked g (children (d - 1) a n (n + 1 - 1) 0 (countsOf t1) o) v1 t2 o1
+            → Walked g (nodeRun file g tests d a n (countsOf t) o) v1 t2 o1
         node-reads t1 v1 t2 o1 counts walked =
             let f : n + 1 - 1 ≡ n = omega arith in
             walked-as
-            (from-saturated (children-alike file (z .geometry) tests (d - 1) a n n 0) (oneInternal (countsOf t)) (countsOf t1) o counts
+            (from-saturated (children-alike file g tests (d - 1) a n n 0) (oneInternal (countsOf t)) (countsOf t1) o counts
             ∙ ap saturatedRun (sym (internal-is ∙ test-passes _ v (countsOf t) o _ refl e)))
             (rw f at walked)
 
   -- Children of an internal node, `left` of them from child i on.
   module _ (d a n i left : ℕ) (c : Counts) (o : List ℕ) where
     abbrev Reads : Verdict → List ℕ → List ℕ → Type 0
-    Reads = Walked z (children d a n (left - 1) i c o)
+    Reads = Walked g (children d a n (left - 1) i c o)
 
     -- One, and the test after it: by its pointer's place and the records that it put out.
-    module _ (child : Node) (pointer : ChildAt file (z .geometry) d a n i child) (one : left ≡ 1) (v : Verdict) (t1 o1 : List ℕ)
-        (walked : Walked z (nodeRun file (z .geometry) tests d (child .address) (child .records) c o) v t1 o1) where
+    module _ (child : Node) (pointer : ChildAt file g d a n i child) (one : left ≡ 1) (v : Verdict) (t1 o1 : List ℕ)
+        (walked : Walked g (nodeRun file g tests d (child .address) (child .records) c o) v t1 o1) where
       abbrev after-child : Step
-      after-child c1 o1 = ifPassed (tests .child d (pointerTo (z .geometry) d a n i) (c1 .records - c .records)) c1 o1 (fine c1 o1)
+      after-child c1 o1 = ifPassed (tests .child d (pointerTo g d a n i) (c1 .records - c .records)) c1 o1 (fine c1 o1)
 
-      child-is : andThen (nodeRun file (z .geometry) tests d (child .address) (child .records) c o) after-child
+      child-is : andThen (nodeRun file g tests d (child .address) (child .records) c o) after-child
           ≡ children d a n (left - 1) i c o
       unfolding childrenRun childRun
       child-is = rw (pointer .address, pointer .records, one)
@@ -193,7 +192,7 @@ module _ (file : List ℕ) (z : Sizes) (tests : Tests) where
       child-stops q e = walked-as (ap saturatedRun child-is) (hand-up (after-alike tests d _ _) walked q e)
 
       pub child-tested : v ≡ Accepted → (w : Verdict)
-          → verdictOf w ≡ tests .child d (pointerTo (z .geometry) d a n i) (getD t1 0 0 - c .records) → Reads w t1 o1
+          → verdictOf w ≡ tests .child d (pointerTo g d a n i) (getD t1 0 0 - c .records) → Reads w t1 o1
       child-tested e w code =
           record {
             ends = rw code (sym (go-on (after-alike tests d _ _) walked e)) ∙ ap saturatedRun child-is;
@@ -205,7 +204,7 @@ module _ (file : List ℕ) (z : Sizes) (tests : Tests) where
     first-half = children d a n (left / 2 - 1) i c o
 
     abbrev record-between : Counts → List ℕ → Run
-    record-between = ownRecordRun file (z .geometry) a (i + left / 2 - 1)
+    record-between = ownRecordRun file g a (i + left / 2 - 1)
 
     abbrev second-half : Counts → List ℕ → Run
     second-half = children d a n (left - left / 2 - 1) (i + left / 2)
@@ -215,49 +214,49 @@ module _ (file : List ℕ) (z : Sizes) (tests : Tests) where
     halves some more =
         let e : left - 1 ≡ left / 2 - 1 + suc (left - left / 2 - 1) = omega arith in
         let f : i + left / 2 - 1 ≡ i + (left / 2 - 1) = omega arith in
-        let g : i + left / 2 ≡ i + (left / 2 - 1) + 1 = omega arith in
-        rw (e, f, g) (sym (children-split file (z .geometry) tests d a n (nodeRun file (z .geometry) tests d) (left / 2 - 1) (left - left / 2 - 1) i c o))
+        let h : i + left / 2 ≡ i + (left / 2 - 1) + 1 = omega arith in
+        rw (e, f, h) (sym (children-split file g tests d a n (nodeRun file g tests d) (left / 2 - 1) (left - left / 2 - 1) i c o))
 
     record-alike : Alike record-between
-    record-alike = own-record-alike file (z .geometry) a (i + left / 2 - 1)
+    record-alike = own-record-alike file g a (i + left / 2 - 1)
 
     half-alike : Alike second-half
-    half-alike = children-alike file (z .geometry) tests d a n (left - left / 2 - 1) (i + left / 2)
+    half-alike = children-alike file g tests d a n (left - left / 2 - 1) (i + left / 2)
 
-    pub first-stops : 0 < left → (left ≡ 1 → ⊥) → (v : Verdict) (t1 o1 : List ℕ) → Walked z first-half v t1 o1 → (q : Refusal) → v ≡ Refused q
+    pub first-stops : 0 < left → (left ≡ 1 → ⊥) → (v : Verdict) (t1 o1 : List ℕ) → Walked g first-half v t1 o1 → (q : Refusal) → v ≡ Refused q
         → Reads v t1 o1
     first-stops some more v t1 o1 first q e =
         walked-as (ap saturatedRun (halves some more))
         (hand-up half-alike (hand-up record-alike first q e) q e)
 
     -- After the first half, the record between.
-    module _ (some : 0 < left) (more : left ≡ 1 → ⊥) (v : Verdict) (t1 o1 : List ℕ) (first : Walked z first-half v t1 o1) (read : v ≡ Accepted)
-        (w : Verdict) (t2 o2 : List ℕ) (put : Walked z (record-between (countsOf t1) o1) w t2 o2) where
-      two : Walked z (andThen first-half record-between) w t2 o2
+    module _ (some : 0 < left) (more : left ≡ 1 → ⊥) (v : Verdict) (t1 o1 : List ℕ) (first : Walked g first-half v t1 o1) (read : v ≡ Accepted)
+        (w : Verdict) (t2 o2 : List ℕ) (put : Walked g (record-between (countsOf t1) o1) w t2 o2) where
+      two : Walked g (andThen first-half record-between) w t2 o2
       two = walked-as (sym (go-on record-alike first read)) put
 
       pub record-stops : (q : Refusal) → w ≡ Refused q → Reads w t2 o2
       record-stops q e = walked-as (ap saturatedRun (halves some more)) (hand-up half-alike two q e)
 
       -- And the second half.
-      pub second-reads : w ≡ Accepted → (u : Verdict) (t3 o3 : List ℕ) → Walked z (second-half (countsOf t2) o2) u t3 o3 → Reads u t3 o3
+      pub second-reads : w ≡ Accepted → (u : Verdict) (t3 o3 : List ℕ) → Walked g (second-half (countsOf t2) o2) u t3 o3 → Reads u t3 o3
       second-reads e u t3 o3 = walked-as (sym (go-on half-alike two e) ∙ ap saturatedRun (halves some more))
 
 -- Record i of the internal node at a: one record put out, and counted.
-module _ (file : List ℕ) (z : Sizes) (a i : ℕ) (t o : List ℕ) (v : Verdict) (t1 o1 : List ℕ)
-    (put : Walked z (putRecords file (z .geometry) 1 (recordPlace (z .geometry) a i) (countsOf t) o) v t1 o1) where
-  own-record-is : andThen (putRecords file (z .geometry) 1 (recordPlace (z .geometry) a i) (countsOf t) o) (λ c o. fine (oneInternalRecord c) o)
-      ≡ ownRecordRun file (z .geometry) a i (countsOf t) o
+module _ (file : List ℕ) (g : Geometry) (a i : ℕ) (t o : List ℕ) (v : Verdict) (t1 o1 : List ℕ)
+    (put : Walked g (putRecords file g 1 (recordPlace g a i) (countsOf t) o) v t1 o1) where
+  own-record-is : andThen (putRecords file g 1 (recordPlace g a i) (countsOf t) o) (λ c o. fine (oneInternalRecord c) o)
+      ≡ ownRecordRun file g a i (countsOf t) o
   unfolding ownRecordRun putRecords
   own-record-is =
       ap (λ y. andThen y (λ c o. fine (oneInternalRecord c) o))
-      (then-same (putRecord file (z .geometry) (recordPlace (z .geometry) a i) (countsOf t) o) _ (λ c o. refl))
+      (then-same (putRecord file g (recordPlace g a i) (countsOf t) o) _ (λ c o. refl))
 
-  pub own-record-stops : (q : Refusal) → v ≡ Refused q → Walked z (ownRecordRun file (z .geometry) a i (countsOf t) o) v t1 o1
+  pub own-record-stops : (q : Refusal) → v ≡ Refused q → Walked g (ownRecordRun file g a i (countsOf t) o) v t1 o1
   own-record-stops q e = walked-as (ap saturatedRun own-record-is) (hand-up count-alike put q e)
 
   pub own-record-puts : (t2 : List ℕ) → v ≡ Accepted → saturatedCounts (countsOf t2) ≡ saturatedCounts (oneInternalRecord (countsOf t1))
-      → Walked z (ownRecordRun file (z .geometry) a i (countsOf t) o) Accepted t2 o1
+      → Walked g (ownRecordRun file g a i (countsOf t) o) Accepted t2 o1
   own-record-puts t2 e counts =
       record {
         ends = ap (λ c. fine c o1) counts ∙ sym (sym (ap saturatedRun own-record-is) ∙ go-on count-alike put e);
@@ -265,6 +264,6 @@ module _ (file : List ℕ) (z : Sizes) (a i : ℕ) (t o : List ℕ) (v : Verdict
       }
 
 -- A level below.
-pub readable-under : (z : Sizes) (l : List ℕ) (d : ℕ) → Readable z l d → Readable z l (d - 1)
-readable-under z l d h =
+pub readable-under : (g : Geometry) (l : List ℕ) (d : ℕ) → Readable g l d → Readable g l (d - 1)
+readable-under g l d h =
     record { some = h .some; deep = omega (arith, h .deep); counts = h .counts; totals = λ u k. h .totals u (omega arith) }

@@ -14,7 +14,6 @@ use Rattle.refusal.specs.Answer.{verdictOf}
 use Rattle.refusal.specs.declared.Verdict.{Verdict}
 use Rattle.btree_v2_collect.specs.declared.Tally.{Tally}
 use Rattle.btree_v2_header.specs.declared.BTreeV2Header.{BTreeV2Header}
-use Rattle.btree_v2_internal.specs.declared.Sizes.{Sizes}
 use Rattle.btree_v2_internal.specs.declared.Node.{Node}
 
 -- The counts of a tally of four numbers.
@@ -38,16 +37,16 @@ abbrev pub saturatedRun : Run → Run
 saturatedRun (fine c o) = fine (saturatedCounts c) o
 saturatedRun (stopped number values c o) = stopped number values (saturatedCounts c) o
 
--- Records have bytes, and the sizes of counts and, in l, of totals up to level d are those of the tree.
-pub record Readable (z : Sizes) (l : List ℕ) (d : ℕ) : Type 0 where
-  pub some : 0 < z .geometry .«record_size»
+-- Records have bytes, and l has the widths of a pointer's fields up to level d: of the record count, and then of the total by the level.
+pub record Readable (g : Geometry) (l : List ℕ) (d : ℕ) : Type 0 where
+  pub some : 0 < g .«record_size»
   pub deep : d ≤ 32
-  pub counts : z .«count_size» ≡ countWidth (z .geometry)
-  pub totals : (u : ℕ) → u ≤ d → getD l u 0 ≡ totalWidth (z .geometry) u
+  pub counts : getD l 0 0 ≡ countWidth g
+  pub totals : (u : ℕ) → u ≤ d → getD l (u + 1) 0 ≡ totalWidth g u
 
 -- The records put out are within the output.
-abbrev pub Within : Sizes → List ℕ → List ℕ → Type 0
-Within z t o = getD t 0 0 * z .geometry .«record_size» ≤ length o
+abbrev pub Within : Geometry → List ℕ → List ℕ → Type 0
+Within g t o = getD t 0 0 * g .«record_size» ≤ length o
 
 -- What the tests of an internal node at a with n records have shown where it is read on: its records are there, and offsets have one of the sizes.
 pub record NodeThere (file : List ℕ) (g : Geometry) (a n : ℕ) : Type 0 where
@@ -60,12 +59,12 @@ pub record ChildAt (file : List ℕ) (g : Geometry) (d a n i : ℕ) (child : Nod
   pub records : child .records ≡ recordsIn file g (pointerTo g d a n i)
 
 -- `left` children from child i on, of an internal node of level d + 1 at address a with n records that passed its tests.
-pub record ChildrenLeft (file : List ℕ) (z : Sizes) (l : List ℕ) (d a n i left : ℕ) (t o : List ℕ) : Type 0 where
-  pub readable : Readable z l d
-  pub there : NodeThere file (z .geometry) a n
+pub record ChildrenLeft (file : List ℕ) (g : Geometry) (l : List ℕ) (d a n i left : ℕ) (t o : List ℕ) : Type 0 where
+  pub readable : Readable g l d
+  pub there : NodeThere file g a n
   pub among : i + left ≤ n + 1
   pub some : 0 < left
-  pub within : Within z t o
+  pub within : Within g t o
 
 -- A header whose root is read: none of the tests ends the call that need no file.
 pub record RootRead (h : BTreeV2Header) : Type 0 where
@@ -75,9 +74,9 @@ pub record RootRead (h : BTreeV2Header) : Type 0 where
   pub deep : h .depth ≤ 32
 
 -- The walk x ends as the answer v, the tally t and the output o say, all counts saturated; and the records put out are within the output.
-pub record Walked (z : Sizes) (x : Run) (v : Verdict) (t o : List ℕ) : Type 0 where
+pub record Walked (g : Geometry) (x : Run) (v : Verdict) (t o : List ℕ) : Type 0 where
   pub ends : saturatedRun (runOf v t o) ≡ saturatedRun x
-  pub within : Within z t o
+  pub within : Within g t o
 
 -- Collecting's walk over the node of level d at a with n records.
 abbrev pub nodeWalk : List ℕ → Geometry → (d a n : ℕ) → Counts → List ℕ → Run

@@ -12,7 +12,7 @@ use crate::Collected;
 use crate::Tally;
 use btree_v2_header::BTreeV2Header;
 use btree_v2_internal::Node;
-use btree_v2_internal::Sizes;
+use node_info::Geometry;
 use node_info::NodeInfo;
 use refusal::Refusal;
 use refusal::Verdict;
@@ -56,16 +56,16 @@ fn fitting(n: u16, size: u16, room: usize) -> usize
 // Puts n records from place `from` of the file on out, after those that are there: as many as fit, and 15 where one does not.
 fn put_records(
     file: &[u8],
-    sizes: Sizes,
+    geometry: Geometry,
     from: usize,
     n: u16,
     tally: &mut [u64; 4],
     output: &mut [u8],
 ) -> Verdict
-    requires { ⌜ (0 < sizes .geometry .«record_size») × (from + n * sizes .geometry .«record_size» ≤ length (now file)) × (Within sizes (now tally) (now output)) ⌝ }
-    ensures { λ r. ⌜ Walked sizes (putRecords (now (file .entry)) (sizes .geometry) n from (countsOf (now (tally .entry))) (now (output .entry))) r (now (tally .exit)) (now (output .exit)) ⌝ }
+    requires { ⌜ (0 < geometry .«record_size») × (from + n * geometry .«record_size» ≤ length (now file)) × (Within geometry (now tally) (now output)) ⌝ }
+    ensures { λ r. ⌜ Walked geometry (putRecords (now (file .entry)) geometry n from (countsOf (now (tally .entry))) (now (output .entry))) r (now (tally .exit)) (now (output .exit)) ⌝ }
 {
-    let size = sizes.geometry.record_size;
+    let size = geometry.record_size;
     let at = tally[0] as usize * (size as usize);
     let fit = fitting(n, size, output.len() - at);
     numbers::put_bytes(output, at, &file[from..from + fit * (size as usize)]);
@@ -80,75 +80,69 @@ fn put_records(
 // Reads a leaf, whose records are put out at once.
 fn collect_leaf(
     file: &[u8],
-    sizes: Sizes,
+    geometry: Geometry,
     node: Node,
     tally: &mut [u64; 4],
     output: &mut [u8],
 ) -> Verdict
-    requires { ⌜ (0 < sizes .geometry .«record_size») × (Within sizes (now tally) (now output)) ⌝ }
-    ensures { λ r. ⌜ Walked sizes (nodeWalk (now (file .entry)) (sizes .geometry) 0 (node .address) (node .records) (countsOf (now (tally .entry))) (now (output .entry))) r (now (tally .exit)) (now (output .exit)) ⌝ }
+    requires { ⌜ (0 < geometry .«record_size») × (Within geometry (now tally) (now output)) ⌝ }
+    ensures { λ r. ⌜ Walked geometry (nodeWalk (now (file .entry)) geometry 0 (node .address) (node .records) (countsOf (now (tally .entry))) (now (output .entry))) r (now (tally .exit)) (now (output .exit)) ⌝ }
 {
-    let verdict = btree_v2_leaf::check_leaf(
-        file,
-        node.address,
-        node.records,
-        sizes.geometry.record_size,
-    );
+    let verdict = btree_v2_leaf::check_leaf(file, node.address, node.records, geometry.record_size);
     let Verdict::Accepted = verdict else {
         return verdict;
     };
     let from = (node.address + format::PREFIX_SIZE) as usize;
     one_leaf(tally);
-    put_records(file, sizes, from, node.records, tally, output)
+    put_records(file, geometry, from, node.records, tally, output)
 }
 
 // The tests of an internal node whose children have level `under`.
 fn check_node(
     file: &[u8],
-    sizes: Sizes,
-    total_sizes: &[u8; 33],
+    geometry: Geometry,
+    widths: &[u8; 34],
     under: usize,
     node: Node,
 ) -> Verdict
-    requires { ⌜ Readable sizes (now «total_sizes») under ⌝ }
-    ensures { λ r. ⌜ verdictOf r ≡ collectTests (now (file .entry)) (sizes .geometry) .internal under (node .address) (node .records) ⌝ }
+    requires { ⌜ Readable geometry (now widths) under ⌝ }
+    ensures { λ r. ⌜ verdictOf r ≡ collectTests (now (file .entry)) geometry .internal under (node .address) (node .records) ⌝ }
 {
-    btree_v2_internal::check_internal(file, sizes, total_sizes[under], node)
+    btree_v2_internal::check_internal(file, geometry, widths[0], widths[under + 1], node)
 }
 
 // Child i of an internal node that passed its tests.
 fn child_of(
     file: &[u8],
-    sizes: Sizes,
-    total_sizes: &[u8; 33],
+    geometry: Geometry,
+    widths: &[u8; 34],
     under: usize,
     node: Node,
     i: usize,
 ) -> Node
-    requires { ⌜ Readable sizes (now «total_sizes») under ⌝ }
-    requires { ⌜ NodeThere (now file) (sizes .geometry) (node .address) (node .records) ⌝ }
+    requires { ⌜ Readable geometry (now widths) under ⌝ }
+    requires { ⌜ NodeThere (now file) geometry (node .address) (node .records) ⌝ }
     requires { ⌜ i ≤ node .records ⌝ }
-    ensures { λ r. ⌜ ChildAt (now (file .entry)) (sizes .geometry) under (node .address) (node .records) i r ⌝ }
+    ensures { λ r. ⌜ ChildAt (now (file .entry)) geometry under (node .address) (node .records) i r ⌝ }
 {
-    btree_v2_internal::read_pointer(file, sizes, total_sizes[under], node, i as u16)
+    btree_v2_internal::read_pointer(file, geometry, widths[0], widths[under + 1], node, i as u16)
 }
 
 // Puts record i of an internal node out.
 fn put_own_record(
     file: &[u8],
-    sizes: Sizes,
+    geometry: Geometry,
     node: Node,
     i: usize,
     tally: &mut [u64; 4],
     output: &mut [u8],
 ) -> Verdict
-    requires { ⌜ NodeThere (now file) (sizes .geometry) (node .address) (node .records) ⌝ }
-    requires { ⌜ (i < node .records) × (0 < sizes .geometry .«record_size») × (Within sizes (now tally) (now output)) ⌝ }
-    ensures { λ r. ⌜ Walked sizes (ownRecordRun (now (file .entry)) (sizes .geometry) (node .address) i (countsOf (now (tally .entry))) (now (output .entry))) r (now (tally .exit)) (now (output .exit)) ⌝ }
+    requires { ⌜ NodeThere (now file) geometry (node .address) (node .records) ⌝ }
+    requires { ⌜ (i < node .records) × (0 < geometry .«record_size») × (Within geometry (now tally) (now output)) ⌝ }
+    ensures { λ r. ⌜ Walked geometry (ownRecordRun (now (file .entry)) geometry (node .address) i (countsOf (now (tally .entry))) (now (output .entry))) r (now (tally .exit)) (now (output .exit)) ⌝ }
 {
-    let from = (node.address + format::PREFIX_SIZE) as usize
-        + i * (sizes.geometry.record_size as usize);
-    let verdict = put_records(file, sizes, from, 1, tally, output);
+    let from = (node.address + format::PREFIX_SIZE) as usize + i * (geometry.record_size as usize);
+    let verdict = put_records(file, geometry, from, 1, tally, output);
     let Verdict::Accepted = verdict else {
         return verdict;
     };
@@ -160,28 +154,28 @@ fn put_own_record(
 // apart and not returned as it came: of an accepted one, one byte is then handed up.
 fn collect_node(
     file: &[u8],
-    sizes: Sizes,
-    total_sizes: &[u8; 33],
+    geometry: Geometry,
+    widths: &[u8; 34],
     depth: usize,
     address: u64,
     records: u16,
     tally: &mut [u64; 4],
     output: &mut [u8],
 ) -> Verdict
-    requires { ⌜ Readable sizes (now «total_sizes») depth ⌝ }
-    requires { ⌜ Within sizes (now tally) (now output) ⌝ }
-    ensures { λ r. ⌜ Walked sizes (nodeWalk (now (file .entry)) (sizes .geometry) depth address records (countsOf (now (tally .entry))) (now (output .entry))) r (now (tally .exit)) (now (output .exit)) ⌝ }
+    requires { ⌜ Readable geometry (now widths) depth ⌝ }
+    requires { ⌜ Within geometry (now tally) (now output) ⌝ }
+    ensures { λ r. ⌜ Walked geometry (nodeWalk (now (file .entry)) geometry depth address records (countsOf (now (tally .entry))) (now (output .entry))) r (now (tally .exit)) (now (output .exit)) ⌝ }
 {
     let node = Node { address, records };
     if depth == 0 {
-        let read = collect_leaf(file, sizes, node, tally, output);
+        let read = collect_leaf(file, geometry, node, tally, output);
         let Verdict::Accepted = read else {
             return read;
         };
         return Verdict::Accepted;
     }
     let under = depth - 1;
-    let tested = check_node(file, sizes, total_sizes, under, node);
+    let tested = check_node(file, geometry, widths, under, node);
     let Verdict::Accepted = tested else {
         return tested;
     };
@@ -189,8 +183,8 @@ fn collect_node(
     let left = records as usize + 1;
     let read = collect_children(
         file,
-        sizes,
-        total_sizes,
+        geometry,
+        widths,
         under,
         address,
         records,
@@ -209,8 +203,8 @@ fn collect_node(
 // One place has all the answers, so that a halving takes little of the stack.
 fn collect_children(
     file: &[u8],
-    sizes: Sizes,
-    total_sizes: &[u8; 33],
+    geometry: Geometry,
+    widths: &[u8; 34],
     under: usize,
     address: u64,
     records: u16,
@@ -219,17 +213,17 @@ fn collect_children(
     tally: &mut [u64; 4],
     output: &mut [u8],
 ) -> Verdict
-    requires { ⌜ ChildrenLeft (now file) sizes (now «total_sizes») under address records i left (now tally) (now output) ⌝ }
-    ensures { λ r. ⌜ Walked sizes (childrenWalk (now (file .entry)) (sizes .geometry) under address records (left - 1) i (countsOf (now (tally .entry))) (now (output .entry))) r (now (tally .exit)) (now (output .exit)) ⌝ }
+    requires { ⌜ ChildrenLeft (now file) geometry (now widths) under address records i left (now tally) (now output) ⌝ }
+    ensures { λ r. ⌜ Walked geometry (childrenWalk (now (file .entry)) geometry under address records (left - 1) i (countsOf (now (tally .entry))) (now (output .entry))) r (now (tally .exit)) (now (output .exit)) ⌝ }
 {
     let node = Node { address, records };
     let mut read = Verdict::Accepted;
     if left == 1 {
-        let child = child_of(file, sizes, total_sizes, under, node, i);
+        let child = child_of(file, geometry, widths, under, node, i);
         read = collect_node(
             file,
-            sizes,
-            total_sizes,
+            geometry,
+            widths,
             under,
             child.address,
             child.records,
@@ -244,8 +238,8 @@ fn collect_children(
     let half = left / 2;
     read = collect_children(
         file,
-        sizes,
-        total_sizes,
+        geometry,
+        widths,
         under,
         address,
         records,
@@ -258,14 +252,14 @@ fn collect_children(
         return read;
     };
     let between = i + half - 1;
-    read = put_own_record(file, sizes, node, between, tally, output);
+    read = put_own_record(file, geometry, node, between, tally, output);
     let Verdict::Accepted = read else {
         return read;
     };
     read = collect_children(
         file,
-        sizes,
-        total_sizes,
+        geometry,
+        widths,
         under,
         address,
         records,
@@ -292,7 +286,7 @@ fn tally_of(tally: &[u64; 4]) -> Tally
     }
 }
 
-// Collects from the root on: the sizes of the tree by the capacity table, and the walk.
+// Collects from the root on: the geometry of the tree by the capacity table, and the walk.
 fn collect_root(file: &[u8], header: BTreeV2Header, output: &mut [u8]) -> Collected
     requires { ⌜ RootRead header ⌝ }
     ensures { λ r. ⌜ Ends (collected (now (file .entry)) header (now (output .entry))) r (now (output .exit)) ⌝ }
@@ -300,15 +294,14 @@ fn collect_root(file: &[u8], header: BTreeV2Header, output: &mut [u8]) -> Collec
     let geometry = header.geometry;
     let answer = NodeInfo::compute(geometry, header.depth);
     let info = answer.info;
-    let sizes = Sizes {
-        geometry,
-        count_size: info.max_nrec_size,
-    };
+    let mut widths = [0u8; 34];
+    widths[0] = info.max_nrec_size;
+    numbers::put_bytes(&mut widths, 1, &info.cum_max_nrec_size);
     let mut counted: [u64; 4] = [0; 4];
     let verdict = collect_node(
         file,
-        sizes,
-        &info.cum_max_nrec_size,
+        geometry,
+        &widths,
         header.depth as usize,
         header.root_node_address,
         header.num_records_in_root,

@@ -23,7 +23,7 @@ use Rattle.refusal.specs.declared.Verdict.{Verdict}
 use Rattle.refusal.specs.declared.Verdict.the-variants.{Accepted, Refused}
 use Rattle.read_checks.proofs.Checks.{bytes-there, bytes-missing, first-refuses, first-accepts}
 use Rattle.read_checks.proofs.Nodes.{product-small}
-use Rattle.btree_v2_internal.specs.declared.Sizes.{Sizes}
+use Rattle.node_info.specs.declared.Geometry.{Geometry}
 use Rattle.btree_v2_internal.specs.declared.Node.{Node}
 use Rattle.btree_v2_internal.specs.Pointers.{pointerAt, addressAt, recordsAt}
 
@@ -63,28 +63,28 @@ module _ (w : ℕ) (narrow : w < 1024) where
   before-fits n k i few size h = omega (arith, pointers-small i (omega arith), product-small n k few size)
 
 -- The bytes of a pointer, as `pointer_size` gives them.
-abbrev PointerSized : Sizes → ℕ → ℕ → Type 0
-PointerSized z u w = (w ≡ childPointerSize (z .geometry) (z .«count_size») u) × (w < 1024)
+abbrev PointerSized : Geometry → ℕ → ℕ → ℕ → Type 0
+PointerSized g cs u w = (w ≡ childPointerSize g cs u) × (w < 1024)
 
 -- `check_internal`: the front, and the body where the front is accepted.
-module _ (file : List ℕ) (z : Sizes) (u : ℕ) (x : Node) (front : Verdict) (code : verdictOf front ≡ frontTest file internalSignature (x .address)) where
-  pub internal-front : (q : Refusal) → front ≡ Refused q → verdictOf front ≡ internalTest file (z .geometry .«record_size») (z .geometry .«offset_size») (childPointerSize (z .geometry) (z .«count_size») u) (x .address) (x .records)
+module _ (file : List ℕ) (g : Geometry) (cs u : ℕ) (x : Node) (front : Verdict) (code : verdictOf front ≡ frontTest file internalSignature (x .address)) where
+  pub internal-front : (q : Refusal) → front ≡ Refused q → verdictOf front ≡ internalTest file (g .«record_size») (g .«offset_size») (childPointerSize g cs u) (x .address) (x .records)
   unfolding internalTest
   internal-front = first-refuses front _ _ code
 
   pub internal-body : front ≡ Accepted → (body : Verdict)
-      → verdictOf body ≡ internalBody file (z .geometry .«record_size») (z .geometry .«offset_size») (childPointerSize (z .geometry) (z .«count_size») u) (x .address) (x .records)
-      → verdictOf body ≡ internalTest file (z .geometry .«record_size») (z .geometry .«offset_size») (childPointerSize (z .geometry) (z .«count_size») u) (x .address) (x .records)
+      → verdictOf body ≡ internalBody file (g .«record_size») (g .«offset_size») (childPointerSize g cs u) (x .address) (x .records)
+      → verdictOf body ≡ internalTest file (g .«record_size») (g .«offset_size») (childPointerSize g cs u) (x .address) (x .records)
   unfolding internalTest
   internal-body e body rest = rw (first-accepts front _ _ code e) rest
 
 -- `check_body`: the tests, in their order, of the part of the file from the node on.
-module _ (file : List ℕ) (z : Sizes) (u : ℕ) (x : Node) where
+module _ (file : List ℕ) (g : Geometry) (cs u : ℕ) (x : Node) where
   abbrev recordsEndAt : ℕ
-  recordsEndAt = recordsEnd (z .geometry .«record_size») (x .records)
+  recordsEndAt = recordsEnd (g .«record_size») (x .records)
 
   abbrev answer : Answer
-  answer = internalBody file (z .geometry .«record_size») (z .geometry .«offset_size») (childPointerSize (z .geometry) (z .«count_size») u) (x .address) (x .records)
+  answer = internalBody file (g .«record_size») (g .«offset_size») (childPointerSize g cs u) (x .address) (x .records)
 
   abbrev Behind : List ℕ → Type 0
   Behind rest = rest ≡ part file (x .address) (length file)
@@ -99,50 +99,50 @@ module _ (file : List ℕ) (z : Sizes) (u : ℕ) (x : Node) where
 
   module _ (rest : List ℕ) (w : ℕ) (pointers : Verdict)
       (code : verdictOf pointers ≡ needs (recordsEndAt + (x .records + 1) * w) (length rest) (accepted [])) where
-    pub body-pointers : (q : Refusal) → pointers ≡ Refused q → recordsEndAt ≤ length rest → Behind rest → PointerSized z u w → verdictOf pointers ≡ answer
+    pub body-pointers : (q : Refusal) → pointers ≡ Refused q → recordsEndAt ≤ length rest → Behind rest → PointerSized g cs u w → verdictOf pointers ≡ answer
     unfolding internalBody
     body-pointers q e h is pointer-sized =
         rw (behind-length rest is, le-leb _ _ h, ← pointer-sized .0, e)
         (sym (bytes-missing (recordsEndAt + (x .records + 1) * w) (length rest) pointers code q e _))
 
-    module _ (s : Bool) (size : s ≡ fieldSize (z .geometry .«offset_size»)) where
-      sized : pointers ≡ Accepted → Behind rest → PointerSized z u w → answer ≡ orElse s (refused 4 (z .geometry .«offset_size» ∷ [])) (accepted [])
+    module _ (s : Bool) (size : s ≡ fieldSize (g .«offset_size»)) where
+      sized : pointers ≡ Accepted → Behind rest → PointerSized g cs u w → answer ≡ orElse s (refused 4 (g .«offset_size» ∷ [])) (accepted [])
       unfolding internalBody
       sized all is pointer-sized =
           let h = bytes-there (recordsEndAt + (x .records + 1) * w) (length rest) pointers code all in
           rw (behind-length rest is, le-leb recordsEndAt (length rest) (omega arith), ← pointer-sized .0, le-leb _ _ h, ← size)
 
-      pub body-fine : s ≡ true → pointers ≡ Accepted → Behind rest → PointerSized z u w → accepted [] ≡ answer
+      pub body-fine : s ≡ true → pointers ≡ Accepted → Behind rest → PointerSized g cs u w → accepted [] ≡ answer
       body-fine e all is pointer-sized = rw (sized all is pointer-sized, e)
 
-      pub body-size : s ≡ false → pointers ≡ Accepted → Behind rest → PointerSized z u w → refused 4 (z .geometry .«offset_size» ∷ []) ≡ answer
+      pub body-size : s ≡ false → pointers ≡ Accepted → Behind rest → PointerSized g cs u w → refused 4 (g .«offset_size» ∷ []) ≡ answer
       body-size e all is pointer-sized = rw (sized all is pointer-sized, e)
 
-module _ (file : List ℕ) (z : Sizes) (u : ℕ) (x : Node) where
+module _ (file : List ℕ) (g : Geometry) (cs u : ℕ) (x : Node) where
   -- `read_pointer`: the fields of pointer i. No file reaches a place that is saturated.
   at-saturated : (p k : ℕ) → length file < 2 ^ 64 → num file (saturated p) k ≡ num file p k
   unfolding num
   at-saturated p k small = rw (part-saturated file p k small)
 
   module _ (i w : ℕ) where
-    place : PointerSized z u w → x .address + (recordsEnd (z .geometry .«record_size») (x .records) + i * w) ≡ pointerAt file z u x i
+    place : PointerSized g cs u w → x .address + (recordsEnd (g .«record_size») (x .records) + i * w) ≡ pointerAt file g cs u x i
     unfolding pointerAt pointerPlace
     place sized = rw (sized .0) (omega arith)
 
-    module _ (at : ℕ) (begins : at ≡ saturated (x .address + (recordsEnd (z .geometry .«record_size») (x .records) + i * w))) (sized : PointerSized z u w)
+    module _ (at : ℕ) (begins : at ≡ saturated (x .address + (recordsEnd (g .«record_size») (x .records) + i * w))) (sized : PointerSized g cs u w)
         (small : length file < 2 ^ 64) where
-      pub address-is : (a : ℕ) → a ≡ num file at (min (z .geometry .«offset_size») 8) → a ≡ addressAt file z u x i
+      pub address-is : (a : ℕ) → a ≡ num file at (min (g .«offset_size») 8) → a ≡ addressAt file g cs u x i
       unfolding addressAt childAddress
       address-is a e = rw (e, begins, at-saturated _ _ small, place sized)
 
-      pub records-is : (next n : ℕ) → n ≡ num file next (min (z .«count_size») 8) → next ≡ saturated (at + z .geometry .«offset_size»)
-          → n % 65536 ≡ recordsAt file z u x i
+      pub records-is : (next n : ℕ) → n ≡ num file next (min cs 8) → next ≡ saturated (at + g .«offset_size»)
+          → n % 65536 ≡ recordsAt file g cs u x i
       unfolding recordsAt childRecords
       records-is next n e after = rw (e, after, begins, saturated-add, at-saturated _ _ small, place sized)
 
   -- Where no field has more than 8 bytes, these are the address and the count of a walk.
-  pub fields-walked : (i : ℕ) → z .geometry .«offset_size» ≤ 8 → z .«count_size» ≤ 8
-      → (addressAt file z u x i ≡ childAddress file (z .geometry .«offset_size») (pointerAt file z u x i))
-      × (recordsAt file z u x i ≡ childRecords file (z .geometry .«offset_size») (z .«count_size») (pointerAt file z u x i))
+  pub fields-walked : (i : ℕ) → g .«offset_size» ≤ 8 → cs ≤ 8
+      → (addressAt file g cs u x i ≡ childAddress file (g .«offset_size») (pointerAt file g cs u x i))
+      × (recordsAt file g cs u x i ≡ childRecords file (g .«offset_size») cs (pointerAt file g cs u x i))
   unfolding addressAt recordsAt
   fields-walked i address count = (rw (min-eq-left address), rw (min-eq-left count))

@@ -16,5 +16,5 @@ read-pointer-spec =
     (λ c. search pointers-before-fit)
     (λ c. search before-fits)
     (λ c κs. search needs) (λ c. search needs) (λ c κs. search needs) (λ c. search needs) (λ c κs. search needs)
-    (λ c. search needs) (λ c κs. search needs) (λ c. search needs)
+    (λ c κs. search needs) (λ c. search needs)
     (λ c. (search address-is, search records-is)))

@@ -8,5 +8,5 @@ pub check-node-spec : {M : Type 1} → statement M
 check-node-spec =
     tie.close
     (tie.spec
-    (λ c. search needs) (λ c κs. search needs)
+    (λ c. search needs) (λ c. search needs) (λ c. search needs) (λ c κs. search needs)
     (λ c. search node-tested))

@@ -8,7 +8,7 @@ pub collect-root-spec : {M : Type 1} → statement M
 collect-root-spec =
     tie.close
     (tie.spec
-    (λ c κs. search needs) (λ c. search needs)
+    (λ c κs. search needs) (λ c. search needs) (λ c. search needs) (λ c κs. search needs) (λ c. search needs)
     (λ c κs. (search root-readable, none-within _ _))
     (λ c κs. search needs) (λ c. search needs)
     (λ c. search root-walked))
