@@ -110,7 +110,7 @@ static size_t read_index(const char *path, uint8_t *output, size_t output_length
     accepted(collected, "collect");
     free(file);
     printf("read: %" PRIu64 " records, %" PRIu64 " of them from internal nodes\n",
-           collected[BTREE_V2_COLLECT_RECORDS], collected[BTREE_V2_COLLECT_INNER_RECORDS]);
+           collected[BTREE_V2_COLLECT_RECORDS], collected[BTREE_V2_COLLECT_INTERNAL_RECORDS]);
     return collected[BTREE_V2_COLLECT_RECORDS];
 }
 

@@ -73,7 +73,7 @@ struct walk {
     uint8_t count_width, total_width[33];
     uint8_t *output;
     size_t output_length;
-    uint64_t *answer, records, leaves, internals, inner;
+    uint64_t *answer, records, leaves, internals, internal_records;
 };
 
 /* The bytes that a count takes. */
@@ -143,7 +143,7 @@ static bool children(struct walk *w, unsigned level, uint64_t address, uint16_t 
         if (!node(w, level - 1, child, (uint16_t)below)) return false;
         if (i < count) {
             if (!put(w, records + i * w->t.record_size)) return false;
-            w->inner++;
+            w->internal_records++;
         }
         pointer += w->t.offset_size + w->count_width + w->total_width[level - 1];
     }
@@ -179,7 +179,7 @@ void shadow_collect(struct source source, struct tree tree, uint8_t *output, siz
         widths(&w);
         node(&w, tree.depth, tree.root_address, tree.root_records);
     }
-    uint64_t counts[4] = {w.records, w.leaves, w.internals, w.inner};
+    uint64_t counts[4] = {w.records, w.leaves, w.internals, w.internal_records};
     memcpy(answer + 3, counts, sizeof counts);
 }
 

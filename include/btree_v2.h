@@ -117,10 +117,10 @@ void btree_v2_parse(const uint8_t *file, size_t file_length, uint64_t offset, ui
 
 /* Places of the answer of btree_v2_collect: counts that are given in a refused call too. */
 enum {
-    BTREE_V2_COLLECT_RECORDS = 3,        /* records put out */
-    BTREE_V2_COLLECT_LEAVES = 4,         /* leaves read */
-    BTREE_V2_COLLECT_INTERNAL_NODES = 5, /* internal nodes read */
-    BTREE_V2_COLLECT_INNER_RECORDS = 6,  /* records put out that are from internal nodes */
+    BTREE_V2_COLLECT_RECORDS = 3,          /* records put out */
+    BTREE_V2_COLLECT_LEAVES = 4,           /* leaves read */
+    BTREE_V2_COLLECT_INTERNAL_NODES = 5,   /* internal nodes read */
+    BTREE_V2_COLLECT_INTERNAL_RECORDS = 6, /* records put out that are from internal nodes */
     BTREE_V2_COLLECT_PLACES = 7
 };
 

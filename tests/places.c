@@ -111,7 +111,7 @@ static void reads(void) {
     hold(c[BTREE_V2_COLLECT_RECORDS], RECORDS, "records put out");
     hold(c[BTREE_V2_COLLECT_LEAVES], 2, "leaves read");
     hold(c[BTREE_V2_COLLECT_INTERNAL_NODES], 1, "internal nodes read");
-    hold(c[BTREE_V2_COLLECT_INNER_RECORDS], 1, "records from internal nodes");
+    hold(c[BTREE_V2_COLLECT_INTERNAL_RECORDS], 1, "records from internal nodes");
     hold(memcmp(output, records, sizeof output) == 0, 1, "records");
 
     btree_v2_leaf_record(file, sizeof file, START, 2, RECORD_SIZE, 1, output, sizeof output, r);

@@ -17,7 +17,7 @@ pub struct Counts {
     /// Internal nodes read.
     pub internals: u64,
     /// Records put out that are from internal nodes.
-    pub inner: u64,
+    pub internal_records: u64,
 }
 
 /// The end of a collecting.
@@ -107,7 +107,7 @@ impl Walk<'_> {
             self.node(depth - 1, get(address), records as u16)?;
             if i < count {
                 self.put(&part[6 + i * self.record..][..self.record])?;
-                more(&mut self.counts.inner);
+                more(&mut self.counts.internal_records);
             }
         }
         Ok(())

@@ -96,7 +96,7 @@ fn cases() -> Vec<Case> {
 type Fault = fn(&mut Case);
 
 /// What can go wrong with a tree of 4 records (leaves at 3 and 24, root at 45) or of 8 (leaves at
-/// 3, 24, 66 and 87, inner nodes at 45 and 108, root at 129).
+/// 3, 24, 66 and 87, internal nodes at 45 and 108, root at 129).
 const FAULTS: [(u64, Fault); 22] = [
     (8, |case| case.output_length = 24),
     (8, |case| case.output_length = 23),

@@ -204,13 +204,13 @@ impl Comparison {
         let answer = self.by.answer(&collecting, &mut lent);
         let size = u64::from(tree.geometry.node_size);
         let nodes = (tree.root_address - sample.image_at as u64) / size + 1;
-        let [number, _, _, records, leaves, internals, inner] = answer;
+        let [number, _, _, records, leaves, internals, internal_records] = answer;
         same([number, records], [0, tree.total_records], "written:", case)?;
         same(&lent[0], &sample.records, "written:", case)?;
         if records > 0 {
             same(
                 [leaves, leaves + internals],
-                [inner + 1, nodes],
+                [internal_records + 1, nodes],
                 "written:",
                 case,
             )?;

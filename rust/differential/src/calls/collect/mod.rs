@@ -83,7 +83,7 @@ impl Case for Collecting<'_> {
             counts.records,
             counts.leaves,
             counts.internals,
-            counts.inner,
+            counts.internal_records,
         ]
     }
 
