@@ -13,7 +13,7 @@ use Rattle.numbers.proofs.Lists.{part-cons}
 use Rattle.numbers.proofs.Numbers.{num-add, field-size-le}
 use Rattle.refusal.specs.declared.Refusal.{Refusal}
 use Rattle.refusal.specs.Answer.{Answer, accepted, refused, refusalOf, orElse, verdictOf}
-use Rattle.format.specs.Bytes.{headerSignature}
+use Rattle.format.specs.Bytes.{headerSignature, headerSize}
 use Rattle.read_checks.specs.Tests.{needs, same, checksumTest}
 use Rattle.btree_v2_header.specs.Header.{headerFigures, headerAt, parsed}
 use Rattle.btree_v2_header.specs.Answers.{Parses}
@@ -105,7 +105,7 @@ module _ (file : List ℕ) (o ow lw : ℕ) where
         let e1 : o + (16 + ow) ≡ o + 16 + ow = omega arith in
         let e2 : o + (16 + ow + 2) ≡ o + 18 + ow = omega arith in
         let e3 : o + (16 + ow + 2 + lw) ≡ o + 18 + ow + lw = omega arith in
-        let e4 : o + (16 + ow + 2 + lw + 4) ≡ o + 22 + ow + lw = omega arith in
+        let e4 : o + (16 + ow + 2 + lw + 4) ≡ o + headerSize ow lw = omega arith in
         rw (le-leb (o + 4) (length file) (omega (arith, b .there)), b .signature, le-leb _ _ (b .there), b .version, b .size, e1, e2, e3, e4)
 
     pub stop-root : Stop (16 + ow)

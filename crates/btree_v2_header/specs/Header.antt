@@ -5,7 +5,7 @@ use lib.Dec.{eqb}
 use lib.ListN.{length}
 use Rattle.numbers.specs.Numbers.{fieldSize, part, num}
 use Rattle.refusal.specs.Answer.{Answer, accepted, refused, orElse}
-use Rattle.format.specs.Bytes.{headerSignature}
+use Rattle.format.specs.Bytes.{headerSignature, headerSize}
 use Rattle.read_checks.specs.Tests.{needs, same, checksumTest}
 use Rattle.btree_v2_header.specs.declared.BTreeV2Header.{BTreeV2Header}
 
@@ -46,5 +46,5 @@ module _ (file : List ℕ) (o ow lw : ℕ) where
       (needs (o + 18 + ow) (length file)
       (orElse (fieldSize lw) (refused 5 (lw ∷ []))
       (needs (o + 18 + ow + lw) (length file)
-      (needs (o + 22 + ow + lw) (length file)
+      (needs (o + headerSize ow lw) (length file)
       (checksumTest file o (o + 18 + ow + lw) (accepted (headerFigures headerAt))))))))))))

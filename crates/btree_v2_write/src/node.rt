@@ -6,7 +6,7 @@ ghost use lib.ListN.{length};
 ghost use lib.Dec.{ltb};
 ghost use Rattle.numbers.specs.Numbers.{pick, le, part};
 ghost use Rattle.numbers.specs.Places.{stored};
-ghost use Rattle.format.specs.Bytes.{padded, leafBytes};
+ghost use Rattle.format.specs.Bytes.{prefixSize, padded, leafBytes};
 ghost use Rattle.node_info.specs.Capacity.{childPointerSize};
 ghost use Rattle.btree_v2_write.specs.Shares.{twoSizes, withOne, recordsAfter, pointerSize, pointerTo, pointersTo, childrenOf, PointerFits, PointersFit, InternalNodeFits, internalNodeBytes};
 use format::Request;
@@ -85,8 +85,8 @@ fn put_own_records(
     extra: usize,
     r: usize,
 ) -> usize
-    requires { ⌜ (base < 2 ^ 32) × (6 + kept * «record_size» ≤ length (now node)) × ((r + withOne (twoSizes kept extra (base + 1) base)) * «record_size» ≤ length (now records)) × (0 < «record_size») ⌝ }
-    ensures { λ p. ⌜ (now (node .exit) ≡ stored (now (node .entry)) 6 (recordsAfter «record_size» (now (records .entry)) (twoSizes kept extra (base + 1) base) r)) × (p ≡ 6 + kept * «record_size») ⌝ }
+    requires { ⌜ (base < 2 ^ 32) × (prefixSize + kept * «record_size» ≤ length (now node)) × ((r + withOne (twoSizes kept extra (base + 1) base)) * «record_size» ≤ length (now records)) × (0 < «record_size») ⌝ }
+    ensures { λ p. ⌜ (now (node .exit) ≡ stored (now (node .entry)) prefixSize (recordsAfter «record_size» (now (records .entry)) (twoSizes kept extra (base + 1) base) r)) × (p ≡ prefixSize + kept * «record_size») ⌝ }
 {
     let mut at = format::PREFIX_SIZE as usize;
     let mut next_record = r;

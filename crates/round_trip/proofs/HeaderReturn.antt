@@ -52,7 +52,7 @@ unfolding parsed
 parsed-passed file o ow lw l s v fo fl c =
     let there : (end : ℕ) → end ≤ o + headerSize ow lw → leb end (length file) ≡ true = λ end h. le-leb end (length file) (omega arith) in
     rw (there (o + 4) (omega arith), s, same-refl headerSignature, there (o + 16) (omega arith), v, fo)
-    (rw (there (o + 16 + ow) (omega arith), there (o + 18 + ow) (omega arith), fl, there (o + 18 + ow + lw) (omega arith), there (o + 22 + ow + lw) (omega arith)) c)
+    (rw (there (o + 16 + ow) (omega arith), there (o + 18 + ow) (omega arith), fl, there (o + 18 + ow + lw) (omega arith), there (o + headerSize ow lw) (omega arith)) c)
 
 -- A header that stands in a file is read.
 module _ (sum-fits : (xs : List ℕ) → lookup3 xs < 256 ^ 4) (file : List ℕ) (o : ℕ) (q : Request) (depth root rootRecords n : ℕ)
