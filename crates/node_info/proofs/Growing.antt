@@ -76,6 +76,16 @@ pub no-info : _≡_ {A = NodeInfo}
 unfolding noInfo
 no-info = refl
 
+-- A table with the entries of a level above level u.
+abbrev pub withLevel : NodeInfo → ℕ → Level → NodeInfo
+withLevel t u l =
+    record {
+      «max_nrec_size» = t .«max_nrec_size»;
+      «cum_max_nrec_size» = set (t .«cum_max_nrec_size») (u + 1) (l .total);
+      «max_nrec» = set (t .«max_nrec») (u + 1) (l .most);
+      «cum_max_nrec» = set (t .«cum_max_nrec») (u + 1) (l .all);
+    }
+
 module _ (g : Geometry) where
   -- What a loop that grows a table keeps: W, and the table of depth u.
   abbrev pub Grown : ℕ → NodeInfo → ℕ → Type 0
@@ -88,14 +98,7 @@ module _ (g : Geometry) where
   module _ (w : ℕ) (t : NodeInfo) (u : ℕ) (grown : Grown w t u) where
     pub grown-turn : (l : Level) → u < 32
         → l ≡ levelAbove g (childPointerSize g w (getD (t .«cum_max_nrec_size») u 0)) (getD (t .«cum_max_nrec») u 0)
-        → Grown w
-        (record {
-          «max_nrec_size» = t .«max_nrec_size»;
-          «cum_max_nrec_size» = set (t .«cum_max_nrec_size») (u + 1) (l .total);
-          «max_nrec» = set (t .«max_nrec») (u + 1) (l .most);
-          «cum_max_nrec» = set (t .«cum_max_nrec») (u + 1) (l .all);
-        })
-        (u + 1)
+        → Grown w (withLevel t u l) (u + 1)
     unfolding infoAt levelAbove
     grown-turn l h e =
         let total = total-entry g u t (grown .2) u (le-refl u) (grown .0) in

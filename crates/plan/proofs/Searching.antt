@@ -6,14 +6,14 @@ use native.Mathlib.Nat.{le-refl}
 use native.Mathlib.Omega.{arith}
 use lib.Arith.{le-zero}
 use lib.Dec.{leb, ltb}
-use lib.ListN.{getD, set}
+use lib.ListN.{getD}
 use borrow.Author.Tests.{ltb-true, ltb-false, le-leb, lt-leb}
 use Rattle.node_info.specs.Capacity.{childPointerSize, subtreeCapacity, nodeCapacity}
 use Rattle.node_info.specs.Table.{infoAt, levelAbove}
 use Rattle.node_info.specs.declared.NodeInfo.{NodeInfo}
 use Rattle.node_info.specs.declared.Level.{Level}
 use Rattle.node_info.proofs.Columns.{node-entry, subtree-entry}
-use Rattle.node_info.proofs.Growing.{Grown, grown-start, grown-turn}
+use Rattle.node_info.proofs.Growing.{withLevel, Grown, grown-start, grown-turn}
 use Rattle.plan.specs.Steps.{Passed, Searched}
 use Rattle.plan.proofs.Depths.{Tried, tried-none, tried-next, level-low, searched-enough, searched-empty}
 use Rattle.node_info.specs.declared.Geometry.{Geometry}
@@ -54,14 +54,7 @@ module _ (n : ℕ) (g : Geometry) where
 
       pub sought-turn : Passed n g → ltb 0 (getD (t .«max_nrec») u 0) ≡ true → (l : Level)
           → l ≡ levelAbove g (childPointerSize g w (getD (t .«cum_max_nrec_size») u 0)) (getD (t .«cum_max_nrec») u 0)
-          → Sought w
-          (record {
-            «max_nrec_size» = t .«max_nrec_size»;
-            «cum_max_nrec_size» = set (t .«cum_max_nrec_size») (u + 1) (l .total);
-            «max_nrec» = set (t .«max_nrec») (u + 1) (l .most);
-            «cum_max_nrec» = set (t .«cum_max_nrec») (u + 1) (l .all);
-          })
-          (u + 1)
+          → Sought w (withLevel t u l) (u + 1)
       sought-turn pass b l h =
           let some : 0 < nodeCapacity g u = ltb-true _ _ (rw most-is at b) in
           let low : u < 23 = level-low n g pass u small some in
