@@ -3,7 +3,9 @@ use mathlib.Core.Path.{_≡_, refl}
 use mathlib.Core.List.{List}
 use Prim.Native.Nat.{ℕ, _+_}
 use native.Mathlib.Omega.{arith}
+use mathlib.Core.Bool.{false}
 use Rattle.refusal.specs.Answer.{Answer, accepted, refused}
+use Rattle.read_checks.specs.Tests.{noRecords}
 use Rattle.btree_v2_collect.specs.Walk.{Counts, Run, fine, stopped, andThen, ifPassed, noCounts, oneRecord, oneLeaf, oneInternal, oneInternalRecord, Tests, putRecord, putRecords, leafRun, ownRecordRun, nodeRun}
 use Rattle.node_info.specs.declared.Geometry.{Geometry}
 use Rattle.btree_v2_header.specs.declared.BTreeV2Header.{BTreeV2Header}
@@ -63,7 +65,7 @@ module _ (file : List ℕ) (g : Geometry) where
 
 -- Collecting that reads a root.
 pub one-leaf-more : (file : List ℕ) (h : BTreeV2Header) (out : List ℕ) (c : Counts) (o : List ℕ)
-    → (h .«total_records» ≡ 0 → ⊥) → (h .«num_records_in_root» ≡ 0 → ⊥) → collected file h out ≡ fine c o → c .leaves ≡ c .internalRecords + 1
-one-leaf-more file h out c o some root e =
+    → noRecords (h .«total_records») (h .«num_records_in_root») ≡ false → collected file h out ≡ fine c o → c .leaves ≡ c .internalRecords + 1
+one-leaf-more file h out c o some e =
     let run = node-balanced file (h .geometry) (collectTests file (h .geometry)) (h .depth) (h .«root_node_address») (h .«num_records_in_root») noCounts out in
-    omega (arith, run .balance c o (collected-fine file h out some root c o e))
+    omega (arith, run .balance c o (collected-fine file h out some c o e))

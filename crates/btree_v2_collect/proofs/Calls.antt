@@ -5,6 +5,7 @@ use Prim.Native.Nat.{ℕ, _+_, _*_, _^_, _≤_, _<_, zero-le}
 use native.Mathlib.Nat.{zero-mul}
 use native.Mathlib.Omega.{arith}
 use native.Mathlib.Numerals.{add-one}
+use mathlib.Core.Bool.{Bool, true, false}
 use lib.Dec.{leb}
 use lib.ListN.{length, set, replicate, List·getD-append}
 use borrow.Author.Tests.{le-leb}
@@ -13,7 +14,7 @@ use Rattle.numbers.specs.Places.{put}
 use Rattle.numbers.proofs.Lists.{stored-is, put-fits}
 use Rattle.numbers.proofs.Numbers.{saturated-small}
 use Rattle.node_info.specs.Capacity.{totalWidth}
-use Rattle.refusal.specs.declared.Refusal.the-variants.{ZeroRecordSize, DepthAboveLimit}
+use Rattle.refusal.specs.declared.Refusal.{Refusal}
 use Rattle.refusal.specs.Answer.{cells, verdictOf}
 use Rattle.refusal.proofs.Answers.{refused-is}
 use Rattle.node_info.specs.declared.NodeInfo.{NodeInfo}
@@ -21,7 +22,9 @@ use Rattle.node_info.specs.Table.{infoAt, noInfo}
 use Rattle.node_info.proofs.Columns.{column-length, total-entry}
 use Rattle.btree_v2_collect.specs.Walk.{Run, fine, stopped, noCounts, nodeRun}
 use Rattle.btree_v2_collect.specs.Collect.{collected, collectTests, countCells, runCells, runOutput}
-use Rattle.btree_v2_collect.proofs.Outcomes.{collected-none, collected-root-none, collected-8, collected-16, collected-walk}
+use Rattle.btree_v2_collect.proofs.Outcomes.{collected-empty, collected-root}
+use Rattle.read_checks.specs.Tests.{noRecords, rootTest}
+use Rattle.read_checks.proofs.Root.{Rooted, root-passed}
 use Rattle.btree_v2_header.specs.declared.BTreeV2Header.{BTreeV2Header}
 use Rattle.refusal.specs.declared.Verdict.{Verdict}
 use Rattle.refusal.specs.declared.Verdict.the-variants.{Accepted, Refused}
@@ -73,25 +76,20 @@ walked-ends g x v t o walked r e small =
 abbrev nothing : Tally
 nothing = record { records = 0; leaves = 0; internals = 0; «internal_records» = 0 }
 
--- The tests that need no file, by the header's fields.
-module _ (file : List ℕ) (h : BTreeV2Header) (o : List ℕ) where
-  pub no-records : h .«total_records» ≡ 0 → Ends (collected file h o) (record { verdict = Accepted; tally = nothing }) o
+-- A tree without records, as `empty` says, and one that the tests before the root refuse or pass.
+module _ (file : List ℕ) (h : BTreeV2Header) (o : List ℕ) (empty : Bool) (says : empty ≡ noRecords (h .«total_records») (h .«num_records_in_root»)) where
+  pub no-records : empty ≡ true → Ends (collected file h o) (record { verdict = Accepted; tally = nothing }) o
   unfolding runCells
-  no-records e = rw (collected-none file h o e) (refl, refl)
+  no-records e = rw (collected-empty file h o (sym says ∙ e)) (refl, refl)
 
-  pub no-root-records : h .«num_records_in_root» ≡ 0 → Ends (collected file h o) (record { verdict = Accepted; tally = nothing }) o
+  pub root-refused : empty ≡ false → (v : Verdict) → verdictOf v ≡ rootTest (h .geometry .«record_size») (h .depth) → (q : Refusal) → v ≡ Refused q
+      → Ends (collected file h o) (record { verdict = v; tally = nothing }) o
   unfolding runCells
-  no-root-records e = rw (collected-root-none file h o e) (refl, refl)
+  root-refused some v tested q e = rw (collected-root file h o (sym says ∙ some), ← tested, e, refused-is q .2) (refl, refl)
 
-  module _ (some : h .«total_records» ≡ 0 → ⊥) (root : h .«num_records_in_root» ≡ 0 → ⊥) where
-    pub no-record-size : h .geometry .«record_size» ≡ 0 → Ends (collected file h o) (record { verdict = Refused ZeroRecordSize; tally = nothing }) o
-    unfolding runCells
-    no-record-size e = rw (collected-8 file h o some root e) (refl, refl)
-
-    pub too-deep : (h .geometry .«record_size» ≡ 0 → ⊥) → 32 < h .depth
-        → Ends (collected file h o) (record { verdict = Refused (DepthAboveLimit (h .depth)); tally = nothing }) o
-    unfolding runCells
-    too-deep sized e = rw (collected-16 file h o some root sized e) (refl, refl)
+pub root-read : (h : BTreeV2Header) (empty : Bool) → empty ≡ noRecords (h .«total_records») (h .«num_records_in_root») → empty ≡ false
+    → (v : Verdict) → verdictOf v ≡ rootTest (h .geometry .«record_size») (h .depth) → v ≡ Accepted → RootRead h
+root-read h empty says some v tested e = record { some = sym says ∙ some; passes = sym tested ∙ rw e }
 
 -- Before the first record.
 pub none-within : (size room : ℕ) → 0 * size ≤ room
@@ -100,8 +98,11 @@ none-within size room = rw zero-mul zero-le
 -- The widths that the table gives, and the walk by them from the root on.
 module _ {h : BTreeV2Header} (read : RootRead h) (info : NodeInfo)
     (table : info ≡ pick (leb (h .depth) 32) (infoAt (h .geometry) (h .depth)) noInfo) where
+  rooted : Rooted (h .geometry .«record_size») (h .depth)
+  rooted = root-passed (h .geometry .«record_size») (h .depth) (read .passes)
+
   table-is : info ≡ infoAt (h .geometry) (h .depth)
-  table-is = rw (le-leb (h .depth) 32 (read .deep)) at table
+  table-is = rw (le-leb (h .depth) 32 (rooted .deep)) at table
 
   abbrev counts : ℕ
   counts = info .«max_nrec_size»
@@ -119,12 +120,12 @@ module _ {h : BTreeV2Header} (read : RootRead h) (info : NodeInfo)
       let fits : 1 + length totals ≤ length (set (replicate 34 0) 0 counts) = omega (arith, totals-long) in
       let whole = e ∙ put-fits (set (replicate 34 0) 0 counts) 1 totals fits ∙ stored-is _ _ _ in
       record {
-        some = omega (arith, read .sized);
-        deep = read .deep;
+        some = omega (arith, rooted .sized);
+        deep = rooted .deep;
         counts = rw (whole, table-is);
         totals = λ u k.
-            rw (whole, add-one u, List·getD-append totals _ 0 u (omega (arith, totals-long, read .deep)))
-            (total-entry (h .geometry) (h .depth) info table-is u k (read .deep));
+            rw (whole, add-one u, List·getD-append totals _ 0 u (omega (arith, totals-long, rooted .deep)))
+            (total-entry (h .geometry) (h .depth) info table-is u k (rooted .deep));
       }
 
   -- A node at address a with n records is the root.
@@ -133,5 +134,5 @@ module _ {h : BTreeV2Header} (read : RootRead h) (info : NodeInfo)
       → a ≡ h .«root_node_address» → n ≡ h .«num_records_in_root» → (r : Tally) → r ≡ tallyOf t → Small r
       → Ends (collected file h o) (record { verdict = v; tally = r }) o1
   root-walked file o a n v t o1 walked address records r e small =
-      rw (collected-walk file h o (read .some) (read .root) (read .sized) (read .deep))
+      rw (collected-root file h o (read .some), read .passes)
       (walked-ends (h .geometry) _ v t o1 (rw (address, records) at walked) r e small)

@@ -1,17 +1,17 @@
 -- What every walk leaves, refused or not: a front of whole records is put out and every other byte of the output stays.
 use mathlib.Core.Path.{_≡_, refl, _∙_}
-use mathlib.Core.Bool.{Bool, true, false, not, _||_}
+use mathlib.Core.Bool.{Bool, true, false, not}
 use mathlib.Core.List.{List}
 use Prim.Native.Nat.{ℕ, _+_, _-_, _*_, _≤_, zero-le}
 use native.Mathlib.Nat.{le-refl, le-trans, zero-mul, mul-le-mul-right}
 use native.Mathlib.Omega.{arith}
-use lib.Dec.{leb, ltb, eqb}
 use lib.ListN.{length, take, drop, length-take}
 use lib.Seq.{take-take, drop-drop}
 use Rattle.numbers.specs.Numbers.{part}
 use Rattle.numbers.specs.Places.{stored}
 use Rattle.numbers.proofs.Lists.{length-stored, take-stored, drop-stored-end}
 use Rattle.refusal.specs.Answer.{Answer, accepted, refused, orElse}
+use Rattle.read_checks.specs.Tests.{noRecords, rootTest}
 use Rattle.btree_v2_collect.specs.Walk.{Counts, Run, fine, stopped, andThen, ifPassed, noCounts, oneLeaf, oneInternal, oneInternalRecord, Tests, putRecord, putRecords, leafRun, ownRecordRun, nodeRun}
 use Rattle.node_info.specs.declared.Geometry.{Geometry}
 use Rattle.btree_v2_header.specs.declared.BTreeV2Header.{BTreeV2Header}
@@ -123,9 +123,8 @@ module _ (file : List ℕ) (g : Geometry) where
 pub collected-fronted : (file : List ℕ) (h : BTreeV2Header) (out : List ℕ) → Fronted (h .geometry .«record_size») 0 out (collected file h out)
 unfolding collected
 collected-fronted file h out =
-    or-else (not (eqb (h .«total_records») 0 || eqb (h .«num_records_in_root») 0)) (front-fine (h .geometry .«record_size») noCounts out)
-    (or-else (ltb 0 (h .geometry .«record_size»)) (stays (h .geometry .«record_size») noCounts out)
-    (or-else (leb (h .depth) 32) (stays (h .geometry .«record_size») noCounts out) (node-fronted file (h .geometry) _ (h .depth) _ _ noCounts out)))
+    or-else (not (noRecords (h .«total_records») (h .«num_records_in_root»))) (front-fine (h .geometry .«record_size») noCounts out)
+    (if-passed (h .geometry .«record_size») (rootTest (h .geometry .«record_size») (h .depth)) noCounts (node-fronted file (h .geometry) _ (h .depth) _ _ noCounts out))
   where
     or-else : (t : Bool) {x y : Run} → Fronted (h .geometry .«record_size») 0 out x → Fronted (h .geometry .«record_size») 0 out y → Fronted (h .geometry .«record_size») 0 out (orElse t x y)
     or-else true f g = g

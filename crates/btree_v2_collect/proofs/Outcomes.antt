@@ -1,17 +1,19 @@
 -- What room in the output makes of a record or of several, and what the header makes of collecting: one law for each outcome.
-use mathlib.Core.Path.{_≡_, refl, ap, fun-ext}
-use mathlib.Core.Bool.{Bool, true, false, or-true}
+use mathlib.Core.Path.{_≡_, refl, sym, ap, fun-ext, _∙_}
+use mathlib.Core.Bool.{Bool, true, false}
 use mathlib.Core.List.{List, [], _∷_}
 use Prim.Native.Nat.{ℕ, zero, suc, _+_, _-_, _*_, _≤_, _<_}
 use native.Mathlib.Nat.{suc-add, zero-add, add-zero, zero-mul}
 use native.Mathlib.Omega.{arith}
-use lib.Dec.{leb, ltb}
+use lib.Dec.{leb}
 use lib.ListN.{length}
-use borrow.Author.Tests.{leb-true, le-ltb, lt-ltb, le-leb, lt-leb, eq-eqb, ne-eqb}
+use borrow.Author.Tests.{leb-true, le-leb, lt-leb}
 use Rattle.numbers.specs.Numbers.{part}
 use Rattle.numbers.specs.Places.{stored}
-use Rattle.refusal.specs.Answer.{orElse}
-use Rattle.btree_v2_collect.specs.Walk.{Counts, Run, fine, stopped, andThen, noCounts, oneRecord, putRecord, putRecords, nodeRun}
+use Rattle.refusal.specs.Answer.{Answer, accepted, refused, orElse}
+use Rattle.read_checks.specs.Tests.{noRecords, rootTest}
+use Rattle.read_checks.proofs.Root.{none-in-all}
+use Rattle.btree_v2_collect.specs.Walk.{Counts, Run, fine, stopped, andThen, ifPassed, noCounts, oneRecord, putRecord, putRecords, nodeRun}
 use Rattle.node_info.specs.declared.Geometry.{Geometry}
 use Rattle.btree_v2_header.specs.declared.BTreeV2Header.{BTreeV2Header}
 use Rattle.btree_v2_collect.specs.Collect.{collectTests, collected}
@@ -60,42 +62,27 @@ module _ (file : List ℕ) (g : Geometry) where
       let e : n ≡ k + suc (n - (k + 1)) = omega arith in
       rw (e, put-split k (suc (n - (k + 1))) p c o, h, put-short (p + k * g .«record_size») c1 o1 short)
 
--- Collecting: nothing to read, its two refusals, and the walk.
+-- Collecting: nothing to read, the tests before the root, and the walk.
 module _ (file : List ℕ) (h : BTreeV2Header) (out : List ℕ) where
+  pub collected-empty : noRecords (h .«total_records») (h .«num_records_in_root») ≡ true → collected file h out ≡ fine noCounts out
+  unfolding collected
+  collected-empty e = rw e
+
   pub collected-none : h .«total_records» ≡ 0 → collected file h out ≡ fine noCounts out
-  unfolding collected
-  collected-none e = rw (eq-eqb (h .«total_records») 0 e)
+  collected-none e = collected-empty (sym (none-in-all (h .«total_records») (h .«num_records_in_root») e))
 
-  pub collected-root-none : h .«num_records_in_root» ≡ 0 → collected file h out ≡ fine noCounts out
-  unfolding collected
-  collected-root-none e = rw (eq-eqb (h .«num_records_in_root») 0 e, or-true)
-
-  module _ (some : h .«total_records» ≡ 0 → ⊥) (root : h .«num_records_in_root» ≡ 0 → ⊥) where
-    pub collected-8 : h .geometry .«record_size» ≡ 0 → collected file h out ≡ stopped 8 [] noCounts out
+  module _ (some : noRecords (h .«total_records») (h .«num_records_in_root») ≡ false) where
+    pub collected-root : collected file h out
+        ≡ ifPassed (rootTest (h .geometry .«record_size») (h .depth)) noCounts out
+        (nodeRun file (h .geometry) (collectTests file (h .geometry)) (h .depth) (h .«root_node_address») (h .«num_records_in_root») noCounts out)
     unfolding collected
-    collected-8 e = rw (ne-eqb (h .«total_records») 0 some, ne-eqb (h .«num_records_in_root») 0 root, le-ltb 0 (h .geometry .«record_size») (omega arith))
+    collected-root = rw some
 
     -- Where it is accepted, so was the walk.
     pub collected-fine : (c : Counts) (o : List ℕ) → collected file h out ≡ fine c o
         → nodeRun file (h .geometry) (collectTests file (h .geometry)) (h .depth) (h .«root_node_address») (h .«num_records_in_root») noCounts out ≡ fine c o
-    unfolding collected
-    collected-fine c o e =
-        let sized = past (ltb 0 (h .geometry .«record_size»)) 8 [] _ (rw (ne-eqb (h .«total_records») 0 some, ne-eqb (h .«num_records_in_root») 0 root) at e) in
-        past (leb (h .depth) 32) 16 (h .depth ∷ []) _ sized
+    collected-fine c o e = past (rootTest (h .geometry .«record_size») (h .depth)) (sym collected-root ∙ e)
       where
-        past : (t : Bool) (number : ℕ) (values : List ℕ) (r : Run) → orElse t (stopped number values noCounts out) r ≡ fine c o → r ≡ fine c o
-        past true number values r f = f
-        past false number values r f = cc
-
-    module _ (bytes : h .geometry .«record_size» ≡ 0 → ⊥) where
-      pub collected-16 : 32 < h .depth → collected file h out ≡ stopped 16 (h .depth ∷ []) noCounts out
-      unfolding collected
-      collected-16 l =
-          rw (ne-eqb (h .«total_records») 0 some, ne-eqb (h .«num_records_in_root») 0 root, lt-ltb 0 (h .geometry .«record_size») (omega arith), lt-leb (h .depth) 32 l)
-
-      pub collected-walk : h .depth ≤ 32
-          → collected file h out
-          ≡ nodeRun file (h .geometry) (collectTests file (h .geometry)) (h .depth) (h .«root_node_address») (h .«num_records_in_root») noCounts out
-      unfolding collected
-      collected-walk l =
-          rw (ne-eqb (h .«total_records») 0 some, ne-eqb (h .«num_records_in_root») 0 root, lt-ltb 0 (h .geometry .«record_size») (omega arith), le-leb (h .depth) 32 l)
+        past : (a : Answer) {r : Run} → ifPassed a noCounts out r ≡ fine c o → r ≡ fine c o
+        past (accepted figures) f = f
+        past (refused number values) f = cc

@@ -1,13 +1,13 @@
 -- What collecting answers of any file: document 01, "Collecting".
 use Prim.Native.Nat.{ℕ}
-use mathlib.Core.Bool.{not, _||_}
+use mathlib.Core.Bool.{not}
 use mathlib.Core.List.{List, [], _∷_, _++_}
-use lib.Dec.{leb, ltb, eqb}
 use Rattle.numbers.specs.Numbers.{saturated}
 use Rattle.refusal.specs.Answer.{accepted, refused, orElse, cells}
 use Rattle.node_info.specs.declared.Geometry.{Geometry}
 use Rattle.node_info.specs.Capacity.{pointerSizeTo}
-use Rattle.btree_v2_collect.specs.Walk.{Counts, Run, fine, stopped, noCounts, Tests, nodeRun}
+use Rattle.read_checks.specs.Tests.{noRecords, rootTest}
+use Rattle.btree_v2_collect.specs.Walk.{Counts, Run, fine, stopped, ifPassed, noCounts, Tests, nodeRun}
 use Rattle.btree_v2_internal.specs.Internal.{internalTest}
 use Rattle.btree_v2_header.specs.declared.BTreeV2Header.{BTreeV2Header}
 use Rattle.btree_v2_leaf.specs.Leaf.{leafTest}
@@ -26,10 +26,9 @@ module _ (file : List ℕ) (g : Geometry) where
 unfoldable pub collected : List ℕ → BTreeV2Header → List ℕ → Run
 collected file h out =
     let g = h .geometry in
-    orElse (not (eqb (h .«total_records») 0 || eqb (h .«num_records_in_root») 0)) (fine noCounts out)
-    (orElse (ltb 0 (g .«record_size»)) (stopped 8 [] noCounts out)
-    (orElse (leb (h .depth) 32) (stopped 16 (h .depth ∷ []) noCounts out)
-    (nodeRun file g (collectTests file g) (h .depth) (h .«root_node_address») (h .«num_records_in_root») noCounts out)))
+    orElse (not (noRecords (h .«total_records») (h .«num_records_in_root»))) (fine noCounts out)
+    (ifPassed (rootTest (g .«record_size») (h .depth)) noCounts out
+    (nodeRun file g (collectTests file g) (h .depth) (h .«root_node_address») (h .«num_records_in_root») noCounts out))
 
 -- A walk's end as the call gives it: number and two values, and the four counts, each saturated at 2^64 - 1.
 abbrev pub countCells : Counts → List ℕ

@@ -2,15 +2,16 @@
 -- and leaves.
 use Prim.Native.Nat.{ℕ, _+_, _*_, _≤_, _<_}
 use mathlib.Core.Path.{_≡_}
-use mathlib.Core.List.{List}
+use mathlib.Core.List.{List, []}
 use lib.ListN.{length, getD}
-use mathlib.Core.Bool.{true}
+use mathlib.Core.Bool.{true, false}
 use Rattle.numbers.specs.Numbers.{saturated, fieldSize}
 use Rattle.node_info.specs.Capacity.{countWidth, totalWidth}
 use Rattle.node_info.specs.declared.Geometry.{Geometry}
 use Rattle.btree_v2_collect.specs.Walk.{Counts, Run, fine, stopped, ifPassed, recordPlace, pointerTo, addressIn, recordsIn, childrenRun, nodeRun}
 use Rattle.btree_v2_collect.specs.Collect.{collectTests}
-use Rattle.refusal.specs.Answer.{verdictOf}
+use Rattle.refusal.specs.Answer.{accepted, verdictOf}
+use Rattle.read_checks.specs.Tests.{noRecords, rootTest}
 use Rattle.refusal.specs.declared.Verdict.{Verdict}
 use Rattle.btree_v2_collect.specs.declared.Tally.{Tally}
 use Rattle.btree_v2_header.specs.declared.BTreeV2Header.{BTreeV2Header}
@@ -68,10 +69,8 @@ pub record ChildrenLeft (file : List ℕ) (g : Geometry) (l : List ℕ) (d a n i
 
 -- A header whose root is read: none of the tests ends the call that need no file.
 pub record RootRead (h : BTreeV2Header) : Type 0 where
-  pub some : h .«total_records» ≡ 0 → ⊥
-  pub root : h .«num_records_in_root» ≡ 0 → ⊥
-  pub sized : h .geometry .«record_size» ≡ 0 → ⊥
-  pub deep : h .depth ≤ 32
+  pub some : noRecords (h .«total_records») (h .«num_records_in_root») ≡ false
+  pub passes : rootTest (h .geometry .«record_size») (h .depth) ≡ accepted []
 
 -- The walk x ends as the answer v, the tally t and the output o say, all counts saturated; and the records put out are within the output.
 pub record Walked (g : Geometry) (x : Run) (v : Verdict) (t o : List ℕ) : Type 0 where

@@ -324,29 +324,19 @@ pub fn collect_btree_v2_records(file: &[u8], header: BTreeV2Header, output: &mut
         internals: 0,
         internal_records: 0,
     };
-    if header.total_records == 0 {
+    if read_checks::is_empty(header.total_records, header.num_records_in_root) {
         return Collected {
             verdict: Verdict::Accepted,
             tally,
         };
     }
-    if header.num_records_in_root == 0 {
+    let geometry = header.geometry;
+    let tested = read_checks::check_root(geometry.record_size, header.depth);
+    let Verdict::Accepted = tested else {
         return Collected {
-            verdict: Verdict::Accepted,
+            verdict: tested,
             tally,
         };
-    }
-    if header.geometry.record_size == 0 {
-        return Collected {
-            verdict: Verdict::Refused(Refusal::ZeroRecordSize),
-            tally,
-        };
-    }
-    if NodeInfo::LEVEL_LIMIT < header.depth {
-        return Collected {
-            verdict: Verdict::Refused(Refusal::DepthAboveLimit(header.depth)),
-            tally,
-        };
-    }
+    };
     collect_root(file, header, output)
 }

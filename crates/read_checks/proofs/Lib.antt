@@ -3,3 +3,4 @@ pub mod Checks
 pub mod Nodes
 pub mod Passing
 pub mod Outcomes
+pub mod Root

@@ -1,12 +1,12 @@
--- Tests that the readers share: bytes that are there, a signature, a node's front, a checksum. From document 01, "Header reader",
--- "Collecting" and "Causes and numbers".
+-- Tests that the readers share: those before the root, bytes that are there, a signature, a node's front, a checksum. From document 01,
+-- "Header reader", "Collecting" and "Causes and numbers".
 use Prim.Native.Nat.{ℕ, _+_, _-_}
 use mathlib.Core.List.{[], _∷_, List}
-use lib.Dec.{leb, eqb}
+use lib.Dec.{leb, ltb, eqb}
 use lib.ListN.{length}
 use Rattle.numbers.specs.Numbers.{saturated, part, num}
 use Rattle.refusal.specs.Answer.{Answer, accepted, refused, orElse}
-use mathlib.Core.Bool.{Bool, true, false, _&&_}
+use mathlib.Core.Bool.{Bool, true, false, _&&_, _||_}
 use Rattle.checksum.specs.Lookup3.{lookup3}
 use Rattle.format.specs.Bytes.{prefixSize}
 
@@ -31,3 +31,14 @@ unfoldable pub checksumTest : List ℕ → ℕ → ℕ → Answer → Answer
 checksumTest file from end rest =
     orElse (eqb (num file end 4) (lookup3 (part file from (end - from))))
     (refused 6 (num file end 4 ∷ lookup3 (part file from (end - from)) ∷ [])) rest
+
+-- A tree without records: N or the root's count is 0.
+abbrev pub noRecords : ℕ → ℕ → Bool
+noRecords total root = eqb total 0 || eqb root 0
+
+-- What is tested before the root: record size, depth.
+unfoldable pub rootTest : ℕ → ℕ → Answer
+rootTest rs depth =
+    orElse (ltb 0 rs) (refused 8 [])
+    (orElse (leb depth 32) (refused 16 (depth ∷ []))
+    (accepted []))

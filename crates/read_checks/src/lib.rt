@@ -1,4 +1,4 @@
-// Tests that the header reader, the leaf's look and the collector share.
+// Tests that the header reader, the leaf's look and the readers of a tree share.
 
 ghost use mathlib.Core.Path.{_≡_};
 ghost use mathlib.Core.List.{[], _∷_};
@@ -6,7 +6,8 @@ ghost use Prim.Native.Nat.{_+_, _-_};
 ghost use lib.ListN.{length};
 ghost use Rattle.numbers.specs.Numbers.{part};
 ghost use Rattle.refusal.specs.Answer.{accepted, verdictOf};
-ghost use Rattle.read_checks.specs.Tests.{needs, same, frontTest, checksumTest};
+ghost use Rattle.read_checks.specs.Tests.{needs, same, frontTest, checksumTest, noRecords, rootTest};
+use node_info::NodeInfo;
 use refusal::Refusal;
 use refusal::Verdict;
 
@@ -85,4 +86,27 @@ fn between<'a>(data: &'a [u8], from: usize, end: usize) -> &'a [u8]
         return &data[0..0];
     }
     numbers::part(data, from as u64, (end - from) as u64)
+}
+
+// Whether a tree has no records by its header: none in all, or none in the root.
+pub fn is_empty(total_records: u64, root_records: u16) -> bool
+    ensures { λ r. ⌜ r ≡ noRecords «total_records» «root_records» ⌝ }
+{
+    if total_records == 0 {
+        return true;
+    }
+    root_records == 0
+}
+
+// What is tested before the root: records have bytes, and the tree is not too deep.
+pub fn check_root(record_size: u16, depth: u16) -> Verdict
+    ensures { λ r. ⌜ verdictOf r ≡ rootTest «record_size» depth ⌝ }
+{
+    if record_size == 0 {
+        return Verdict::Refused(Refusal::ZeroRecordSize);
+    }
+    if NodeInfo::LEVEL_LIMIT < depth {
+        return Verdict::Refused(Refusal::DepthAboveLimit(depth));
+    }
+    Verdict::Accepted
 }

@@ -5,7 +5,7 @@ use Prim.Native.Nat.{ℕ, _+_, _*_, _≤_}
 use native.Mathlib.Nat.{zero-add, zero-mul}
 use native.Mathlib.Omega.{arith}
 use lib.ListN.{length, drop}
-use borrow.Author.Tests.{le-leb, lt-ltb, ne-eqb}
+use Rattle.read_checks.proofs.Root.{some-records, root-passes}
 use Rattle.checksum.proofs.Promise.{lookup3-lt}
 use Rattle.numbers.specs.Numbers.{part}
 use Rattle.numbers.proofs.Lists.{stored-is}
@@ -53,7 +53,7 @@ module _ (q : Request) (recs : List ℕ) (a : Accepts q recs) (some : 1 ≤ q .�
     unfolding collected headerWritten
     collects =
         let root = root-some q recs a some in
-        rw (ne-eqb (q .«record_count») 0 (λ e. omega arith), ne-eqb (rootRecordsOf q) 0 (λ e. omega arith), lt-ltb 0 (q .geometry .«record_size») (positive q (plan q recs a some)), le-leb (depthOf q) 32 (deep q recs a some))
+        rw (some-records (q .«record_count») (rootRecordsOf q) (λ e. omega arith) (λ e. omega arith), ← root-passes (q .geometry .«record_size») (depthOf q) (λ e. omega (arith, positive q (plan q recs a some))) (deep q recs a some))
         (walks (collectTests file (q .geometry)) (collecting-passes q recs file lookup3-lt (a .offset)))
 
     -- With the header read back, all is returned.

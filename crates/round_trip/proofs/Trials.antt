@@ -18,7 +18,7 @@ use Rattle.format.specs.Request.{nodesOf, imageOf, rootOf, rootRecordsOf, heade
 use Rattle.write_checks.specs.Writing.{writeAnswer, written, headerExit, imageExit}
 use Rattle.btree_v2_collect.specs.Walk.{putRecord, putRecords, leafRun, childRun, ownRecordRun, childrenRun, nodeRun}
 use Rattle.btree_v2_internal.specs.Internal.{pointerPlace, childAddress, childRecords, internalBody, internalTest}
-use Rattle.read_checks.specs.Tests.{same, frontTest, checksumTest}
+use Rattle.read_checks.specs.Tests.{same, frontTest, checksumTest, rootTest}
 use Rattle.btree_v2_header.specs.declared.BTreeV2Header.{BTreeV2Header}
 use Rattle.btree_v2_header.specs.Header.{headerAt, parsed}
 use Rattle.btree_v2_leaf.specs.Leaf.{leafBody, leafTest}
@@ -243,7 +243,7 @@ disagreeing i [] = []
 disagreeing i (t ∷ ts) = let rest = disagreeing (i + 1) ts in pick (same (t .found) (t .due)) rest (i ∷ rest)
 
 agree : disagreeing 0 (writes ++ (reads ++ collects)) ≡ []
-unfolding computed le unle num leastFrom width fieldSize stored cells leafCapacity countWidth internalCapacity subtreeCapacity
+unfolding computed rootTest le unle num leastFrom width fieldSize stored cells leafCapacity countWidth internalCapacity subtreeCapacity
     totalWidth nodeCapacity sumKids between count size below nodes leaves taken distributed children kidsOf planTree anyOf thin
     leastLevel planDepth emptyLevel planned planFigures planAnswer summed padded pointerBytes address recordRange leafBytes pointer pointers ownRecords internalBytes
     kidsImage image headerBytes over nodesOf imageOf rootOf rootRecordsOf headerOf writeAnswer written headerExit imageExit putRecord
