@@ -29,28 +29,32 @@ fn records_length(count: u64, record_size: u16) -> usize
     rows::at_most(512, (count % 65536) * (record_size as u64))
 }
 
-// The write of a row, into these buffers.
-fn write(list: &[u64; 280], row: usize, header: &mut [u8], image: &mut [u8]) -> [u64; 5]
+// What a row asks to be written.
+fn request(list: &[u64; 280], row: usize) -> Request
     requires { ⌜ row < 20 ⌝ }
-    ensures { λ r. ⌜ (5 ≡ length r) × (length (now (header .exit)) ≡ length (now (header .entry))) × (length (now (image .exit)) ≡ length (now (image .entry))) ⌝ }
 {
     let at = 14 * row;
-    let count = list[at + 1];
-    let record_size = rows::number16(list[at + 2]);
-    let bytes = records(count);
-    let n = records_length(count, record_size);
     let geometry = Geometry {
         node_size: rows::number32(list[at + 3]),
-        record_size,
+        record_size: rows::number16(list[at + 2]),
         offset_size: rows::byte(list[at + 4]),
     };
-    let request = Request {
+    Request {
         tree_type: rows::byte(list[at]),
-        record_count: count,
+        record_count: list[at + 1],
         geometry,
         length_size: rows::byte(list[at + 5]),
         start: list[at + 6],
-    };
+    }
+}
+
+// The write of a request with records of its count, into these buffers.
+fn write(request: Request, header: &mut [u8], image: &mut [u8]) -> [u64; 5]
+    ensures { λ r. ⌜ (5 ≡ length r) × (length (now (header .exit)) ≡ length (now (header .entry))) × (length (now (image .exit)) ≡ length (now (image .entry))) ⌝ }
+{
+    let geometry = request.geometry;
+    let bytes = records(request.record_count);
+    let n = records_length(request.record_count, geometry.record_size);
     let answer = btree_v2_write::write(request, &bytes[..n], header, image);
     rows::of_plan(answer)
 }
@@ -66,7 +70,7 @@ fn leaves(
 ) -> bool
     requires { ⌜ row < 20 ⌝ }
 {
-    let numbers = write(list, row, header, image);
+    let numbers = write(request(list, row), header, image);
     if !rows::stand_at(list, 14 * row + 9, &numbers) {
         return false;
     }
