@@ -7,5 +7,5 @@ pub is-empty-spec : {M : Type 1} → statement M
 is-empty-spec =
     tie.close
     (tie.spec
-    (λ c. search none-in-all)
-    (λ c. search some-in-all))
+    (λ c. none-in-all _ (c .before .args .root-records) (c .if1 .taken))
+    (λ c. some-in-all _ (c .before .args .root-records) (c .if1 .left)))
