@@ -1,12 +1,12 @@
 -- The tests before the root: one law for each outcome, and what a tree that passes has.
 use mathlib.Core.Path.{_≡_, refl}
-use mathlib.Core.Bool.{Bool, true, false, or-true, true≢false}
+use mathlib.Core.Bool.{Bool, true, false}
 use mathlib.Core.List.{[], _∷_}
 use Prim.Native.Nat.{ℕ, _≤_, _<_}
 use native.Mathlib.Omega.{arith}
 use lib.Dec.{leb, ltb, eqb}
-use borrow.Author.Tests.{eq-eqb, ne-eqb, eqb-true, lt-ltb, le-ltb, le-leb, lt-leb, leb-true, ltb-true}
-use Rattle.refusal.specs.Answer.{Answer, accepted, refused, orElse}
+use borrow.Author.Tests.{eq-eqb, ne-eqb, lt-ltb, le-ltb, le-leb, lt-leb, leb-true, ltb-true}
+use Rattle.refusal.specs.Answer.{accepted, refused, orElse}
 use Rattle.read_checks.specs.Tests.{noRecords, rootTest}
 
 -- A tree without records, and one with some.
@@ -16,21 +16,8 @@ none-in-all total root e = rw (eq-eqb total 0 e)
 pub some-in-all : (total root : ℕ) → (total ≡ 0 → ⊥) → eqb root 0 ≡ noRecords total root
 some-in-all total root h = rw (ne-eqb total 0 h)
 
-pub none-in-root : (total root : ℕ) → root ≡ 0 → true ≡ noRecords total root
-none-in-root total root e = rw (eq-eqb root 0 e, or-true)
-
 pub some-records : (total root : ℕ) → (total ≡ 0 → ⊥) → (root ≡ 0 → ⊥) → noRecords total root ≡ false
 some-records total root h k = rw (ne-eqb total 0 h, ne-eqb root 0 k)
-
-pub record Some (total root : ℕ) : Type 0 where
-  pub inAll : total ≡ 0 → ⊥
-  pub inRoot : root ≡ 0 → ⊥
-
-pub has-records : (total root : ℕ) → noRecords total root ≡ false → Some total root
-has-records total root e = record {
-  inAll = λ z. true≢false (rw (eq-eqb total 0 z) at e);
-  inRoot = λ z. true≢false (rw (eq-eqb root 0 z, or-true) at e);
-}
 
 -- The tests.
 module _ (rs depth : ℕ) where
