@@ -17,8 +17,8 @@ use Rattle.refusal.specs.Answer.{Answer, accepted, refused, orElse, verdictOf}
 use Rattle.format.specs.Bytes.{internalSignature, recordsEnd}
 use Rattle.node_info.specs.Capacity.{childPointerSize}
 use Rattle.btree_v2_internal.specs.Internal.{pointerPlace, childAddress, childRecords, internalBody, internalTest}
-use Rattle.read_checks.specs.Tests.{needs, same, frontTest}
-use Rattle.read_checks.proofs.Passing.{passed, passed-both, there, front-there, front-then}
+use Rattle.read_checks.specs.Tests.{needs, frontTest}
+use Rattle.read_checks.proofs.Passing.{passed, passed-both, there, front-there}
 use Rattle.refusal.specs.declared.Verdict.{Verdict}
 use Rattle.refusal.specs.declared.Verdict.the-variants.{Accepted, Refused}
 use Rattle.read_checks.proofs.Checks.{bytes-there, bytes-missing, first-refuses, first-accepts}
@@ -27,17 +27,7 @@ use Rattle.node_info.specs.declared.Geometry.{Geometry}
 use Rattle.btree_v2_internal.specs.declared.Node.{Node}
 use Rattle.btree_v2_internal.specs.Pointers.{pointerAt, addressAt, recordsAt}
 
--- An internal node's tests in one row.
 module _ (file : List ℕ) (rs ow w a n : ℕ) where
-  pub internal-test-is : internalTest file rs ow w a n
-      ≡ needs (a + 6) (length file)
-      (orElse (same (part file a 4) internalSignature) (refused 2 [])
-      (needs (6 + n * rs) (length file - a)
-      (needs (6 + n * rs + (n + 1) * w) (length file - a)
-      (orElse (fieldSize ow) (refused 4 (ow ∷ [])) (accepted [])))))
-  unfolding internalTest internalBody
-  internal-test-is = rw front-then
-
   -- What an internal node that passes has: its first 6 bytes, its records, and offsets of one of the sizes.
   pub internal-there : internalTest file rs ow w a n ≡ accepted []
       → (a + 6 ≤ length file) × (6 + n * rs ≤ length file - a) × (fieldSize ow ≡ true)

@@ -1,32 +1,16 @@
--- A leaf's tests in their order, and that a leaf that passes them has its records.
+-- A leaf that passes its tests has its records.
 use mathlib.Core.Path.{_≡_}
-use mathlib.Core.List.{List, []}
+use mathlib.Core.List.{List}
 use Prim.Native.Nat.{ℕ, _+_, _*_, _≤_}
 use native.Mathlib.Omega.{arith}
-use lib.Dec.{leb}
 use lib.ListN.{length}
-use Rattle.numbers.specs.Numbers.{part}
-use Rattle.refusal.specs.Answer.{accepted, refused, orElse}
+use Rattle.refusal.specs.Answer.{accepted}
 use Rattle.format.specs.Bytes.{leafSignature, recordsEnd}
-use Rattle.read_checks.specs.Tests.{needs, same, frontTest, checksumTest}
+use Rattle.read_checks.specs.Tests.{frontTest}
 use Rattle.btree_v2_leaf.specs.Leaf.{leafBody, leafTest}
-use Rattle.read_checks.proofs.Passing.{passed-both, there, front-then}
+use Rattle.read_checks.proofs.Passing.{passed-both, there}
 
 module _ (file : List ℕ) (rs a n : ℕ) where
-  -- A leaf's tests in one row.
-  pub leaf-test-is : leafTest file rs a n
-      ≡ needs (a + 6) (length file)
-      (orElse (same (part file a 4) leafSignature) (refused 2 [])
-      (needs (a + 6 + n * rs) (length file)
-      (orElse (leb (a + 10 + n * rs) (length file)) (accepted [])
-      (checksumTest file a (a + 6 + n * rs) (accepted [])))))
-  unfolding leafTest leafBody
-  leaf-test-is =
-      let records : a + recordsEnd rs n ≡ a + 6 + n * rs = omega arith in
-      let end : a + 6 + n * rs + 4 ≡ a + 10 + n * rs = omega arith in
-      rw (front-then, records, end)
-
-  -- A leaf that passes has its records.
   pub leaf-there : (figures : List ℕ) → leafTest file rs a n ≡ accepted figures → a + 6 + n * rs ≤ length file
   unfolding leafTest leafBody
   leaf-there figures e =

@@ -3,9 +3,8 @@ use mathlib.Core.Path.{_≡_, refl}
 use mathlib.Core.Bool.{true}
 use mathlib.Core.Logic.{⊎-elim}
 use mathlib.Core.List.{[], _∷_}
-use Prim.Native.Nat.{ℕ, _+_, _-_, _*_, _^_, _≤_, _<_, zero-le}
-use native.Mathlib.Nat.{eq-zero-or-pos, mul-le-mul, one-mul}
-use native.Mathlib.Omega.{arith}
+use Prim.Native.Nat.{ℕ, _+_, _-_, _^_, _≤_, _<_, zero-le}
+use native.Mathlib.Nat.{eq-zero-or-pos, one-mul}
 use lib.Dec.{ltb}
 use Rattle.node_info.specs.Capacity.{subtreeCapacity, nodeCapacity}
 use Rattle.plan.specs.Tree.{Tree, count, size, below, nodes, leaves}
@@ -42,10 +41,6 @@ module _ (g : Geometry) where
   none-size : size (planDepth 0 g) (planned 0 g) ≡ 0
   unfolding planned planTree size
   none-size = rw (depth-none 0 g refl)
-
-  none-nodes : nodes (planDepth 0 g) (planned 0 g) ≡ 1
-  unfolding planned planTree nodes below
-  none-nodes = rw (depth-none 0 g refl)
 
 module _ (n : ℕ) (g : Geometry) (p : Plannable n g) where
   -- The depth is the least level that is enough, and 23 at most.
@@ -85,14 +80,3 @@ module _ (n : ℕ) (g : Geometry) (p : Plannable n g) where
   pub planned-nodes : 0 < n → nodes (planDepth n g) (planned n g) ≤ n
   unfolding planned
   planned-nodes h = plan-nodes-le (subtreeCapacity g) (planDepth n g) n (p .thick h)
-
-  -- The image has 2^40 bytes at most.
-  pub planned-few : nodes (planDepth n g) (planned n g) < 2 ^ 24
-  planned-few =
-      ⊎-elim
-      (λ (e : n ≡ 0). rw (e, none-nodes g) (omega arith))
-      (λ (h : 0 < n). omega (arith, planned-nodes h, p .pass .few))
-      (eq-zero-or-pos n)
-
-  pub planned-image : nodes (planDepth n g) (planned n g) * g .«node_size» ≤ 2 ^ 40
-  planned-image = let few : nodes (planDepth n g) (planned n g) ≤ 2 ^ 24 = omega (arith, planned-few) in omega (arith, mul-le-mul few (p .pass .high))

@@ -31,14 +31,6 @@ unfolding same
 same-refl [] = refl
 same-refl (x ∷ xs) = rw (eq-eqb x x refl, same-refl xs)
 
--- Two tests in a row, and what goes on.
-tests-then : (t : Bool) (values : List ℕ) (u : Bool) (next : Answer)
-    → onAccepted (orElse t (refused 1 values) (orElse u (refused 2 []) (accepted []))) next
-    ≡ orElse t (refused 1 values) (orElse u (refused 2 []) next)
-tests-then true values true next = refl
-tests-then true values false next = refl
-tests-then false values u next = refl
-
 -- A node's front.
 module _ (file signature : List ℕ) (a : ℕ) where
   pub front-passes : a + 6 ≤ length file → part file a 4 ≡ signature → frontTest file signature a ≡ accepted []
@@ -48,8 +40,3 @@ module _ (file signature : List ℕ) (a : ℕ) where
   pub front-there : (figures : List ℕ) → frontTest file signature a ≡ accepted figures → a + 6 ≤ length file
   unfolding frontTest
   front-there figures e = there (a + 6) (length file) figures _ e .0
-
-  pub front-then : (next : Answer) → onAccepted (frontTest file signature a) next
-      ≡ needs (a + 6) (length file) (orElse (same (part file a 4) signature) (refused 2 []) next)
-  unfolding frontTest
-  front-then = tests-then (leb (a + 6) (length file)) (saturated (a + 6) ∷ length file ∷ []) (same (part file a 4) signature)
