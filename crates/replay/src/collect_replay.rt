@@ -27,11 +27,7 @@ fn header(list: &[u64; 459], row: usize) -> BTreeV2Header
     requires { ⌜ row < 27 ⌝ }
 {
     let at = 17 * row;
-    let geometry = Geometry {
-        node_size: rows::number32(list[at + 2]),
-        record_size: rows::number16(list[at + 3]),
-        offset_size: rows::byte(list[at + 8]),
-    };
+    let geometry = rows::geometry(list[at + 2], list[at + 3], list[at + 8]);
     BTreeV2Header {
         tree_type: rows::byte(list[at + 1]),
         geometry,

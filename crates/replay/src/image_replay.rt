@@ -34,11 +34,7 @@ fn request(list: &[u64; 280], row: usize) -> Request
     requires { ⌜ row < 20 ⌝ }
 {
     let at = 14 * row;
-    let geometry = Geometry {
-        node_size: rows::number32(list[at + 3]),
-        record_size: rows::number16(list[at + 2]),
-        offset_size: rows::byte(list[at + 4]),
-    };
+    let geometry = rows::geometry(list[at + 3], list[at + 2], list[at + 4]);
     Request {
         tree_type: rows::byte(list[at]),
         record_count: list[at + 1],

@@ -4,7 +4,6 @@ ghost use Prim.Native.Nat.{_+_, _<_};
 use crate::plan_answers::PLANS;
 use crate::rows;
 use crate::tally::Tally;
-use node_info::Geometry;
 use plan::BTreeV2Plan;
 
 // Whether the plan of a row has its five numbers.
@@ -12,11 +11,7 @@ fn agrees(plans: &[u64; 2772], row: usize) -> bool
     requires { ⌜ row < 308 ⌝ }
 {
     let at = 9 * row;
-    let geometry = Geometry {
-        node_size: rows::number32(plans[at + 2]),
-        record_size: rows::number16(plans[at + 1]),
-        offset_size: rows::byte(plans[at + 3]),
-    };
+    let geometry = rows::geometry(plans[at + 2], plans[at + 1], plans[at + 3]);
     let answer = BTreeV2Plan::new(plans[at], geometry);
     let numbers = rows::of_plan(answer);
     rows::stand_at(plans, at + 4, &numbers)

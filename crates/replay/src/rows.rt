@@ -3,6 +3,7 @@ ghost use mathlib.Core.Path.{_≡_};
 ghost use mathlib.Core.Bool.{true};
 ghost use Prim.Native.Nat.{ℕ, _+_, _%_, _≤_, _<_};
 ghost use lib.ListN.{length, getD};
+use node_info::Geometry;
 use plan::PlanAnswer;
 
 // Every byte of a lent output before the call.
@@ -25,6 +26,17 @@ pub(crate) fn number32(number: u64) -> u32
     ensures { λ r. ⌜ r ≡ number % 4294967296 ⌝ }
 {
     (number % 4294967296) as u32
+}
+
+// Stored numbers as a tree's sizes.
+pub(crate) fn geometry(node_size: u64, record_size: u64, offset_size: u64) -> Geometry
+    ensures { λ r. ⌜ (r .«node_size» ≡ «node_size» % 4294967296) × (r .«record_size» ≡ «record_size» % 65536) × (r .«offset_size» ≡ «offset_size» % 256) ⌝ }
+{
+    Geometry {
+        node_size: number32(node_size),
+        record_size: number16(record_size),
+        offset_size: byte(offset_size),
+    }
 }
 
 // A stored length, at most that of the array in use.
