@@ -10,7 +10,7 @@ use mir.Syntax.{w64}
 use mir.Val.{Fits}
 use borrow.Author.Tests.{le-leb}
 use Rattle.numbers.specs.Numbers.{part, num, saturated, fieldSize}
-use Rattle.numbers.proofs.Copying.{part-saturated}
+use Rattle.numbers.proofs.Copying.{num-saturated}
 use Rattle.numbers.proofs.Numbers.{saturated-add}
 use Rattle.refusal.specs.declared.Refusal.{Refusal}
 use Rattle.refusal.specs.Answer.{Answer, accepted, refused, orElse, verdictOf}
@@ -109,11 +109,7 @@ module _ (file : List ℕ) (g : Geometry) (cs u : ℕ) (x : Node) where
       body-size e all is pointer-sized = rw (sized all is pointer-sized, e)
 
 module _ (file : List ℕ) (g : Geometry) (cs u : ℕ) (x : Node) where
-  -- `read_pointer`: the fields of pointer i. No file reaches a place that is saturated.
-  at-saturated : (p k : ℕ) → length file < 2 ^ 64 → num file (saturated p) k ≡ num file p k
-  unfolding num
-  at-saturated p k small = rw (part-saturated file p k small)
-
+  -- `read_pointer`: the fields of pointer i.
   module _ (i w : ℕ) where
     place : PointerSized g cs u w → x .address + (recordsEnd (g .«record_size») (x .records) + i * w) ≡ pointerAt file g cs u x i
     unfolding pointerAt pointerPlace
@@ -123,12 +119,12 @@ module _ (file : List ℕ) (g : Geometry) (cs u : ℕ) (x : Node) where
         (small : length file < 2 ^ 64) where
       pub address-is : (a : ℕ) → a ≡ num file at (min (g .«offset_size») 8) → a ≡ addressAt file g cs u x i
       unfolding addressAt childAddress
-      address-is a e = rw (e, begins, at-saturated _ _ small, place sized)
+      address-is a e = rw (e, begins, num-saturated _ _ _ small, place sized)
 
       pub records-is : (next n : ℕ) → n ≡ num file next (min cs 8) → next ≡ saturated (at + g .«offset_size»)
           → n % 65536 ≡ recordsAt file g cs u x i
       unfolding recordsAt childRecords
-      records-is next n e after = rw (e, after, begins, saturated-add, at-saturated _ _ small, place sized)
+      records-is next n e after = rw (e, after, begins, saturated-add, num-saturated _ _ _ small, place sized)
 
   -- Where no field has more than 8 bytes, these are the address and the count of a walk.
   pub fields-walked : (i : ℕ) → g .«offset_size» ≤ 8 → cs ≤ 8

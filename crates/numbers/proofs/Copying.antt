@@ -15,7 +15,7 @@ use borrow.Author.Fill.{fill-none, fill-more}
 use borrow.Author.Needs.{zero≤}
 use borrow.Author.Tests.{leb-true, leb-false}
 use borrow.Rule.Slice.PartMut.{putMid}
-use Rattle.numbers.specs.Numbers.{part, saturated}
+use Rattle.numbers.specs.Numbers.{part, num, saturated}
 
 -- What there is of a part: nothing, all that follows, or the whole of it.
 module _ (l : List ℕ) (at count : ℕ) where
@@ -37,6 +37,10 @@ part-saturated l p w h = by (leb p (2 ^ 64 - 1)) refl
     by false e =
         let over = leb-false p (2 ^ 64 - 1) e in
         rw (part-past l (saturated p) w (omega arith), part-past l p w (omega arith))
+
+pub num-saturated : (l : List ℕ) (p w : ℕ) → length l < 2 ^ 64 → num l (saturated p) w ≡ num l p w
+unfolding num
+num-saturated l p w h = rw (part-saturated l p w h)
 
 -- The loop of `copy`: the first i bytes are copied.
 abbrev pub Copied : List ℕ → List ℕ → List ℕ → ℕ → Type 0

@@ -38,6 +38,8 @@ pub enum Refusal {
     OutputTooShort(u64),
     // 16: the depth is above 32
     DepthAboveLimit(u16),
+    // 17: the key's field has not 1 to 8 bytes, or runs past the record's end
+    InvalidKeyField,
 }
 
 // A cause's number and its values, 0 where it has fewer than two.
@@ -84,6 +86,7 @@ impl Refusal {
             Refusal::AddressAboveOffsetSize(start) => of_two(14, start, 0),
             Refusal::OutputTooShort(length) => of_two(15, length, 0),
             Refusal::DepthAboveLimit(depth) => of_two(16, depth as u64, 0),
+            Refusal::InvalidKeyField => of_two(17, 0, 0),
         }
     }
 }

@@ -1,0 +1,2 @@
+-- A
+use mathlib.Core.Path.{_≡_}

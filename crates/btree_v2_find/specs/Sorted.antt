@@ -1,0 +1,50 @@
+-- Finding in a file that collecting accepts and whose records never fall in key: document 02, "One", in its words.
+use mathlib.Core.Path.{_≡_}
+use mathlib.Core.Logic.{_⊎_}
+use mathlib.Core.Bool.{not}
+use mathlib.Core.List.{List, [], _∷_}
+use Prim.Native.Nat.{ℕ, _+_, _*_, _≤_, _<_}
+use lib.ListN.{length, getD, take}
+use Rattle.refusal.specs.Answer.{accepted, orElse}
+use Rattle.node_info.specs.declared.Geometry.{Geometry}
+use Rattle.field.specs.declared.Field.{Field}
+use Rattle.field.specs.Field.{numberAt}
+use Rattle.btree_v2_header.specs.declared.BTreeV2Header.{BTreeV2Header}
+use Rattle.read_checks.specs.Tests.{noRecords}
+use Rattle.btree_v2_collect.specs.InFile.{placesAt, recordsAt}
+use Rattle.btree_v2_find.specs.Find.{placeFound, descended}
+
+-- Records of rs bytes end to end, as collecting puts them out, and the keys that they have by the field f.
+module _ (records : List ℕ) (rs : ℕ) (f : Field) where
+  -- The key of record i.
+  abbrev pub keyOf : ℕ → ℕ
+  keyOf i = numberAt records f (i * rs)
+
+  -- n records never fall in key.
+  abbrev pub NeverFall : ℕ → Type 0
+  NeverFall n = (i : ℕ) → i + 1 < n → keyOf i ≤ keyOf (i + 1)
+
+  -- Record i is the first of n with the key x; and none of n has it.
+  pub record First (n x i : ℕ) : Type 0 where
+    pub among : i < n
+    pub has : keyOf i ≡ x
+    pub before : (j : ℕ) → j < i → keyOf j ≡ x → ⊥
+
+  abbrev pub None : ℕ → ℕ → Type 0
+  None n x = (i : ℕ) → i < n → keyOf i ≡ x → ⊥
+
+-- The places in the file of a tree's records, in the order of collecting.
+unfoldable pub placesOf : List ℕ → BTreeV2Header → List ℕ
+placesOf file h =
+    orElse (not (noRecords (h .«total_records») (h .«num_records_in_root»))) []
+    (placesAt file (h .geometry) (h .depth) (h .«root_node_address») (h .«num_records_in_root»))
+
+-- What finding the key x answers where collecting has put n records out to the front of o: these are the records at the tree's places, one
+-- for each; the answer is the place of the first with the key, and none exactly where none has it.
+pub record FindsFirst (file : List ℕ) (h : BTreeV2Header) (f : Field) (x : ℕ) (o : List ℕ) (n : ℕ) : Type 0 where
+  pub many : length (placesOf file h) ≡ n
+  pub bytes : take (n * h .geometry .«record_size») o ≡ recordsAt file (h .geometry) (placesOf file h)
+  pub accepts : descended file h f x .ends ≡ accepted []
+  pub first : (i : ℕ) → First o (h .geometry .«record_size») f n x i → placeFound file f x (descended file h f x) ≡ getD (placesOf file h) i 0 ∷ []
+  pub none : None o (h .geometry .«record_size») f n x → placeFound file f x (descended file h f x) ≡ []
+  pub either : ((i : ℕ) × First o (h .geometry .«record_size») f n x i) ⊎ None o (h .geometry .«record_size») f n x

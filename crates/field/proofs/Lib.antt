@@ -1,0 +1,2 @@
+-- The laws of a number field.
+pub mod Fields
