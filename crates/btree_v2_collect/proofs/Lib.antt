@@ -1,9 +1,9 @@
 -- The laws that the crate's proofs cite.
 mod Calls
 mod Holding
-mod Nodes
 mod Putting
 mod Steps
+pub mod Nodes
 pub mod Walking
 pub mod Outcomes
 pub mod Fronts

@@ -1,2 +1,4 @@
 -- The laws of finding.
-mod Bounds
+mod Keys
+mod Searching
+mod Descending

@@ -34,11 +34,10 @@ fn bound(file: &[u8], geometry: Geometry, node: Node, key: Field, sought: u64) -
     requires { ⌜ Searched (now file) geometry key (node .address) (node .records) ⌝ }
     ensures { λ r. ⌜ r ≡ bound (now (file .entry)) geometry key sought (node .address) (node .records) ⌝ }
 {
-    let size = geometry.record_size as u64;
     let mut place = node.address + format::PREFIX_SIZE;
     let mut i: u16 = 0;
     while i < node.records && field::read_number(file, key, place) < sought {
-        place += size;
+        place += geometry.record_size as u64;
         i += 1;
     }
     i

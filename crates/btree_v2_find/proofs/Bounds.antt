@@ -1,2 +1,0 @@
--- A
-use mathlib.Core.Path.{_≡_}
