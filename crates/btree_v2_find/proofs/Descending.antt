@@ -26,7 +26,7 @@ use Rattle.btree_v2_collect.specs.Collecting.{NodeThere, ChildAt}
 use Rattle.btree_v2_collect.proofs.Nodes.{tested-by, child-by, leaf-tested, node-there}
 use Rattle.btree_v2_find.specs.Find.{oneOf, lastWith, Descent, ended, onPassed, behind, bound, bounding, descent, placeFound, findCells}
 use Rattle.btree_v2_find.specs.Answers.{placeOf, foundCells}
-use Rattle.btree_v2_find.specs.Descending.{Searched, Widths, GoesOn}
+use Rattle.btree_v2_find.specs.Descending.{Searched, EndedBy, Widths, GoesOn}
 use Rattle.btree_v2_find.specs.declared.Found.{Found}
 use Rattle.btree_v2_find.specs.declared.Place.{Place}
 use Rattle.btree_v2_find.specs.declared.Place.the-variants.{Nowhere}
@@ -49,13 +49,13 @@ module _ (file : List ℕ) (f : Field) (x : ℕ) (whole : Descent) where
         last = on .last ∙ rw (last-append (numberAt file f) x ps (next .bounds)) (sym (one-assoc (last (next .bounds)) (last ps) kept));
       }
 
-  pub ends-refused : (k : ℕ) (kept : List ℕ) (q : Refusal) (r : Found) → (r .verdict ≡ Refused q) × (r .nodes ≡ k) × (placeOf (r .place) ≡ [])
+  pub ends-refused : (k : ℕ) (kept : List ℕ) (q : Refusal) (r : Found) → EndedBy (Refused q) k r
       → GoesOn file f x whole (ended (verdictOf (Refused q))) k kept → foundCells r ≡ findCells file f x whole
   unfolding findCells placeFound
   ends-refused k kept q r is on =
       let e = refused-is q .2 in
       let n : whole .nodes ≡ k = on .nodes ∙ omega arith in
-      rw (is .0, is .1, is .2, on .ends, n, e)
+      rw (is .verdict, is .nodes, is .place, on .ends, n, e)
 
   pub ends-found : (k : ℕ) (kept : List ℕ) (p : Place) → placeOf p ≡ kept → GoesOn file f x whole (ended (accepted [])) k kept
       → foundCells (record { verdict = Accepted; nodes = k; place = p }) ≡ findCells file f x whole
@@ -107,11 +107,10 @@ module _ (file : List ℕ) (g : Geometry) (f : Field) (x depth : ℕ) (root : No
       tested : verdictOf v ≡ collectTests file g .internal u a n
       tested = tested-by file g w (getD l u 0) u (widths .counts) width node v code
 
-      pub internal-stops : (q : Refusal) → v ≡ Refused q → (r : Found)
-          → (r .verdict ≡ v) × (r .nodes ≡ depth - level) × (placeOf (r .place) ≡ []) → foundCells r ≡ findCells file f x whole
+      pub internal-stops : (q : Refusal) → v ≡ Refused q → (r : Found) → EndedBy v (depth - level) r → foundCells r ≡ findCells file f x whole
       internal-stops q e r is =
           let there = rw (opens, ← tested, e, refused-is q .2) at (going .on) in
-          ends-refused file f x whole (depth - level) (placeOf kept) q r (is .0 ∙ e, is .1, is .2) (rw (refused-is q .2) there)
+          ends-refused file f x whole (depth - level) (placeOf kept) q r (rw e at is) (rw (refused-is q .2) there)
 
       module _ (passed : v ≡ Accepted) where
         there : NodeThere file g a n
@@ -145,11 +144,10 @@ module _ (file : List ℕ) (g : Geometry) (f : Field) (x depth : ℕ) (root : No
       leaf : verdictOf v ≡ collectTests file g .leaf a n
       leaf = leaf-tested file g a n v code
 
-      pub leaf-stops : (q : Refusal) → v ≡ Refused q → (r : Found)
-          → (r .verdict ≡ v) × (r .nodes ≡ depth) × (placeOf (r .place) ≡ []) → foundCells r ≡ findCells file f x whole
+      pub leaf-stops : (q : Refusal) → v ≡ Refused q → (r : Found) → EndedBy v depth r → foundCells r ≡ findCells file f x whole
       leaf-stops q e r is =
           let there = rw (ends, done, ← leaf, e, refused-is q .2) at (going .on) in
-          ends-refused file f x whole depth (placeOf kept) q r (is .0 ∙ e, is .1, is .2) (rw (refused-is q .2) there)
+          ends-refused file f x whole depth (placeOf kept) q r (rw e at is) (rw (refused-is q .2) there)
 
       module _ (passed : v ≡ Accepted) where
         pub leaf-searched : Searched file g f a n

@@ -2,3 +2,4 @@
 mod Keys
 mod Searching
 mod Descending
+mod Calls

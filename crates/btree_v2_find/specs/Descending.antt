@@ -6,6 +6,7 @@ use mathlib.Core.List.{List, []}
 use Prim.Native.Nat.{ℕ, _+_, _≤_, _<_}
 use lib.ListN.{length, getD}
 use Rattle.refusal.specs.Answer.{accepted}
+use Rattle.refusal.specs.declared.Verdict.{Verdict}
 use Rattle.node_info.specs.declared.Geometry.{Geometry}
 use Rattle.node_info.specs.Capacity.{countWidth, totalWidth}
 use Rattle.field.specs.declared.Field.{Field}
@@ -14,6 +15,8 @@ use Rattle.read_checks.specs.Tests.{noRecords, rootTest}
 use Rattle.btree_v2_header.specs.declared.BTreeV2Header.{BTreeV2Header}
 use Rattle.btree_v2_collect.specs.Walk.{recordPlace}
 use Rattle.btree_v2_find.specs.Find.{Descent, oneOf, lastWith}
+use Rattle.btree_v2_find.specs.Answers.{placeOf}
+use Rattle.btree_v2_find.specs.declared.Found.{Found}
 
 -- A node at a whose n records are in the file, each with its key.
 pub record Searched (file : List ℕ) (g : Geometry) (f : Field) (a n : ℕ) : Type 0 where
@@ -31,6 +34,12 @@ pub record RootSought (h : BTreeV2Header) (f : Field) : Type 0 where
   pub some : noRecords (h .«total_records») (h .«num_records_in_root») ≡ false
   pub passes : rootTest (h .geometry .«record_size») (h .depth) ≡ accepted []
   pub key : numberField f (h .geometry .«record_size») ≡ true
+
+-- The call ends here by the verdict v, behind k nodes, and nothing is found.
+pub record EndedBy (v : Verdict) (k : ℕ) (r : Found) : Type 0 where
+  pub verdict : r .verdict ≡ v
+  pub nodes : r .nodes ≡ k
+  pub place : placeOf (r .place) ≡ []
 
 -- The descent `whole` goes on as `rest`, behind k nodes, with the place kept of their bounding records.
 pub record GoesOn (file : List ℕ) (f : Field) (x : ℕ) (whole rest : Descent) (k : ℕ) (kept : List ℕ) : Type 0 where

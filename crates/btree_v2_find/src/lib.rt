@@ -2,12 +2,11 @@
 
 ghost use mathlib.Core.Path.{_≡_};
 ghost use mathlib.Core.Bool.{true};
-ghost use mathlib.Core.List.{[]};
 ghost use Rattle.field.specs.Field.{numberField, numberAt};
 ghost use Rattle.btree_v2_collect.specs.Collect.{collectTests};
 ghost use Rattle.btree_v2_find.specs.Find.{oneOf, lastWith, bound, bounding, descent, descended, findCells};
 ghost use Rattle.btree_v2_find.specs.Answers.{placeOf, foundCells};
-ghost use Rattle.btree_v2_find.specs.Descending.{Searched, Widths, RootSought};
+ghost use Rattle.btree_v2_find.specs.Descending.{Searched, EndedBy, Widths, RootSought};
 use btree_v2_header::BTreeV2Header;
 use btree_v2_internal::Node;
 use field::Field;
@@ -69,7 +68,7 @@ fn keep(
 
 // A descent that a test ends, or that has nothing to read.
 fn ended(verdict: Verdict, nodes: u64) -> Found
-    ensures { λ r. ⌜ (r .verdict ≡ verdict) × (r .nodes ≡ nodes) × (placeOf (r .place) ≡ []) ⌝ }
+    ensures { λ r. ⌜ EndedBy verdict nodes r ⌝ }
 {
     Found {
         verdict,
