@@ -20,6 +20,10 @@ use Rattle.btree_v2_leaf_view.specs.declared.RecordAnswer.the-variants as copie
 use Rattle.btree_v2_leaf_view.specs.Answers.{recordAnswerOf}
 use Rattle.btree_v2_collect.specs.declared.Collected.{Collected}
 use Rattle.btree_v2_collect.specs.Answers.{collectedCells}
+use Rattle.btree_v2_find.specs.declared.Found.{Found}
+use Rattle.btree_v2_find.specs.declared.Place.{Place}
+use Rattle.btree_v2_find.specs.declared.Place.the-variants.{Nowhere, At}
+use Rattle.btree_v2_find.specs.Answers.{foundCells}
 
 -- The plan's figures, or its refusal.
 pub plan-put : {p : PlanAnswer} {q : BTreeV2Plan} → p ≡ plan.Planned q
@@ -57,3 +61,11 @@ collected-put r code = rw (← code)
 
 pub collected-length : (r : Collected) {z : List ℕ} → z ≡ collectedCells r → length z ≡ 7
 collected-length r e = simp (e, length-append, length-cells)
+
+-- What was found: number and values, the nodes, and the place.
+module _ (r : Found) {n x y : ℕ} (code : n ∷ x ∷ y ∷ [] ≡ cells 3 (verdictOf (r .verdict))) where
+  pub nowhere-put : r .place ≡ Nowhere → n ∷ x ∷ y ∷ r .nodes ∷ 0 ∷ 0 ∷ [] ≡ foundCells r
+  nowhere-put e = rw (← code, e)
+
+  pub place-put : {p : ℕ} → r .place ≡ At p → n ∷ x ∷ y ∷ r .nodes ∷ 1 ∷ p ∷ [] ≡ foundCells r
+  place-put e = rw (← code, e)

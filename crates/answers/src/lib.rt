@@ -7,11 +7,14 @@ ghost use Rattle.plan.specs.Planned.{planAnswerOf};
 ghost use Rattle.btree_v2_header.specs.Answers.{headerAnswerOf};
 ghost use Rattle.btree_v2_leaf_view.specs.Answers.{recordAnswerOf};
 ghost use Rattle.btree_v2_collect.specs.Answers.{collectedCells};
+ghost use Rattle.btree_v2_find.specs.Answers.{foundCells};
 ghost use Prim.Native.Nat.{_+_, _≤_};
 ghost use lib.ListN.{length, replicate};
 ghost use Rattle.numbers.specs.Places.{stored};
 ghost use Rattle.node_info.specs.Table.{tableAnswer};
 use btree_v2_collect::Collected;
+use btree_v2_find::Found;
+use btree_v2_find::Place;
 use btree_v2_header::HeaderAnswer;
 use btree_v2_leaf_view::RecordAnswer;
 use node_info::NodeInfoAnswer;
@@ -81,6 +84,23 @@ pub fn put_collected(answer: &mut [u64; 7], collected: Collected)
         tally.internals,
         tally.internal_records,
     ];
+}
+
+// The refusal's number and values, zeros where the call is accepted, and the nodes read; 1 and the place, or zeros where none was found.
+pub fn put_found(answer: &mut [u64; 6], found: Found)
+    ensures { λ _. ⌜ now (answer .exit) ≡ foundCells found ⌝ }
+{
+    let verdict = found.verdict;
+    let code = verdict.code();
+    let place = found.place;
+    match place {
+        Place::Nowhere => {
+            *answer = [code.number, code.first, code.second, found.nodes, 0, 0];
+        }
+        Place::At(at) => {
+            *answer = [code.number, code.first, code.second, found.nodes, 1, at];
+        }
+    }
 }
 
 // The length of the record that was copied.

@@ -1,7 +1,10 @@
 -- What a C function is given, field by field.
-use Prim.Native.Nat.{ℕ}
+use Prim.Native.Nat.{ℕ, _%_, _^_}
+use mathlib.Core.List.{List}
+use lib.ListN.{getD}
 use Rattle.node_info.specs.declared.Geometry.{Geometry}
 use Rattle.format.specs.declared.Request.{Request}
+use Rattle.field.specs.declared.Field.{Field}
 use Rattle.btree_v2_header.specs.declared.BTreeV2Header.{BTreeV2Header}
 
 -- The sizes of a tree.
@@ -24,3 +27,19 @@ given treeType g depth root rootRecords records =
       «num_records_in_root» = rootRecords;
       «total_records» = records;
     }
+
+-- The header that its seven figures tell: type, NS, RS, depth, root address, root's records and N, in the order of the header reader's answer.
+-- A number above its field's range counts modulo that range.
+abbrev pub headerOf : List ℕ → ℕ → BTreeV2Header
+headerOf figures ow =
+    given
+    (getD figures 0 0 % 2 ^ 8)
+    (sizes (getD figures 1 0 % 2 ^ 32) (getD figures 2 0 % 2 ^ 16) ow)
+    (getD figures 3 0 % 2 ^ 16)
+    (getD figures 4 0)
+    (getD figures 5 0 % 2 ^ 16)
+    (getD figures 6 0)
+
+-- A field of a record.
+abbrev pub fieldAt : ℕ → ℕ → Field
+fieldAt start width = record { start = start; width = width }

@@ -8,11 +8,13 @@ ghost use Rattle.plan.specs.Planned.{planAnswer};
 ghost use Rattle.write_checks.specs.Writing.{written, headerExit, imageExit};
 ghost use Rattle.btree_v2_header.specs.Header.{parsed};
 ghost use Rattle.btree_v2_collect.specs.Collect.{collected, runCells, runOutput};
+ghost use Rattle.btree_v2_find.specs.Find.{descended, findCells};
 ghost use Rattle.btree_v2_leaf_view.specs.Look.{recordAnswer, recordExit};
-ghost use Rattle.btree_v2.specs.Given.{sizes, asked, given};
+ghost use Rattle.btree_v2.specs.Given.{sizes, asked, given, headerOf, fieldAt};
 use btree_v2_collect::collect;
 use btree_v2_header::BTreeV2Header;
 use btree_v2_leaf_view::copy_leaf_record;
+use field::Field;
 use format::Request;
 use node_info::Geometry;
 use node_info::NodeInfo;
@@ -148,6 +150,48 @@ pub extern "C" fn btree_v2_collect(
     };
     let collected = collect::collect_btree_v2_records(file, header, output);
     answers::put_collected(answer, collected);
+}
+
+// The header that its figures tell, as btree_v2_parse gives them; a number above its field's range counts modulo that range.
+fn header_of(figures: &[u64; 7], offset_size: u8) -> BTreeV2Header
+    ensures { λ r. ⌜ r ≡ headerOf (now (figures .entry)) «offset_size» ⌝ }
+{
+    let geometry = Geometry {
+        node_size: (figures[1] % 0x1_0000_0000) as u32,
+        record_size: (figures[2] % 0x1_0000) as u16,
+        offset_size,
+    };
+    BTreeV2Header {
+        tree_type: (figures[0] % 0x100) as u8,
+        geometry,
+        depth: (figures[3] % 0x1_0000) as u16,
+        root_node_address: figures[4],
+        num_records_in_root: (figures[5] % 0x1_0000) as u16,
+        total_records: figures[6],
+    }
+}
+
+// The record of a header's tree that has the key sought in this field. The answer has the refusal's number and two values, zeros where the
+// call is accepted; then, refused or not, the nodes read; then 1 and the record's place, or zeros where none was found.
+#[no_mangle]
+pub extern "C" fn btree_v2_find(
+    file: &[u8],
+    header: &[u64; 7],
+    offset_size: u8,
+    key_start: u64,
+    key_width: u64,
+    key: u64,
+    answer: &mut [u64; 6],
+)
+    ensures { λ _. ⌜ now (answer .exit) ≡ findCells (now (file .entry)) (fieldAt «key_start» «key_width») key
+        (descended (now (file .entry)) (headerOf (now (header .entry)) «offset_size») (fieldAt «key_start» «key_width») key) ⌝ }
+{
+    let field = Field {
+        start: key_start,
+        width: key_width,
+    };
+    let found = btree_v2_find::find(file, header_of(header, offset_size), field, key);
+    answers::put_found(answer, found);
 }
 
 // Record `index` of a leaf, copied to the front of the output: its length, 0 where the index is not below the count.
