@@ -20,12 +20,23 @@ descend-spec =
     (λ c. search going-start)
     (λ c. search needs) (λ c. search needs) (λ c. search needs) (λ c κs. search needs) (λ c. search needs)
     (λ c. search needs) (λ c. search needs) (λ c. search needs) (λ c κs. search needs)
-    (λ c. search internal-stops)
+    (λ c.
+    let node = c .before .before .before in
+    let loop = node .before .before .before in
+    let entry = loop .before .before in
+    internal-stops _ _ _ _ _ _ (entry .pre .1) (loop .loop .inv) _ _ (entry .pre .0) (node .before .before .loop-test .taken)
+    _ (node .check-internal .ensures) _ (c .before .enum-told2 .given .1) _ (c .ended .ensures))
     (λ c κs. search internal-searched)
     (λ c κs. search internal-searched)
     (λ c κs. search needs)
     (λ c. search needs)
-    (λ c. search internal-turn)
+    (λ c.
+    let node = c .before .before .before .before .before in
+    let loop = node .before .before .before in
+    let entry = loop .before .before in
+    internal-turn _ _ _ _ _ _ (entry .pre .1) (loop .loop .inv) _ _ (entry .pre .0) (node .before .before .loop-test .taken)
+    _ (node .check-internal .ensures) (c .before .before .before .enum-told .given .1) _ (c .before .before .bound .ensures)
+    _ (c .before .keep .ensures) _ (c .read-pointer .ensures))
     (λ c κs. search needs) (λ c. search needs) (λ c. search needs) (λ c κs. search needs)
     (λ c. search leaf-stops)
     (λ c κs. search leaf-searched)
