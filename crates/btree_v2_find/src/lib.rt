@@ -99,15 +99,19 @@ fn descend(
     while 0 < level {
         let under = level - 1;
         let total_size = totals[under as usize];
-        let tested =
-            btree_v2_internal::check_internal(file, geometry, count_size, total_size, node);
+        let tested = btree_v2_internal::check_internal(
+            file,
+            geometry,
+            count_size,
+            total_size,
+            node,
+        );
         let Verdict::Accepted = tested else {
             return ended(tested, (depth - level) as u64);
         };
         let i = bound(file, geometry, node, key, sought);
         kept = keep(file, geometry, node, i, key, sought, kept);
-        node =
-            btree_v2_internal::read_pointer(file, geometry, count_size, total_size, node, i);
+        node = btree_v2_internal::read_pointer(file, geometry, count_size, total_size, node, i);
         level = under;
     }
     let tested = btree_v2_leaf::check_leaf(file, node.address, node.records, geometry.record_size);

@@ -5,7 +5,7 @@ use mathlib.Core.List.{List, [], _∷_, _++_}
 use mathlib.Core.Logic.{_⊎_, inl, inr, ⊎-elim}
 use Prim.Native.Nat.{ℕ, zero, suc, _+_, _-_, _*_, _/_, _%_, _^_, _≤_, _<_}
 use native.Mathlib.Nat.{zero-add, suc-add, mul-comm, mul-assoc, mod-eq-of-lt, div-one, div-div-eq-div-mul, pow-zero, pow-suc, pow-succ', pow-le-pow-right, one-le-pow, not-le-of-lt}
-use native.Mathlib.Nat.{lt-of-not-le, le-trans, lt-of-lt-of-le, lt-of-le-of-lt, eq-or-lt-of-le, mul-suc, suc-mul, zero-mul, min-le-left, le-div-iff-mul-le, div-lt-iff-lt-mul}
+use native.Mathlib.Nat.{lt-of-not-le, le-trans, lt-of-lt-of-le, lt-of-le-of-lt, eq-or-lt-of-le, mul-suc, suc-mul, zero-mul, mul-le-mul, min-le-left, le-div-iff-mul-le, div-lt-iff-lt-mul}
 use native.Mathlib.Omega.{arith}
 use lib.Arith.{mod-mul}
 use lib.Count.{leadingZeros, leading-top}
@@ -174,6 +174,9 @@ module _ (a b : ℕ) where
 
   pub sum-over : 2 ^ 64 - 1 - b < a → 2 ^ 64 ≤ a + b
   sum-over l = omega arith
+
+  pub small-product : a ≤ 2 ^ 32 - 1 → b ≤ 2 ^ 32 - 1 → a * b < 2 ^ 64
+  small-product h l = omega (arith, mul-le-mul h l)
 
   pub zero-product : a ≡ 0 → 0 ≡ saturated (a * b)
   zero-product e = rw (e, zero-mul)

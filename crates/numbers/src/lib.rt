@@ -2,9 +2,9 @@
 // sizes that offsets and lengths may have.
 
 ghost use mathlib.Core.Path.{_≡_};
-ghost use Prim.Native.Nat.{_+_, _≤_, min, _*_};
+ghost use Prim.Native.Nat.{_+_, _*_, _%_, _^_, _≤_, _<_, min};
 ghost use lib.Dec.{leb};
-ghost use lib.ListN.{length};
+ghost use lib.ListN.{length, getD};
 ghost use Rattle.numbers.specs.Numbers.{pick, le, part, num, saturated, width, fieldSize};
 ghost use Rattle.numbers.specs.Places.{put};
 
@@ -16,8 +16,48 @@ pub fn read_le(data: &[u8], at: usize, width: usize) -> u64
     if data.len() <= at {
         return 0;
     }
-    let n = smaller(smaller(width, 8), data.len() - at);
-    read_bytes(&data[at..], n)
+    let rest = &data[at..];
+    if 8 <= rest.len() {
+        return low_bytes(read_u64(rest), width);
+    }
+    read_bytes(rest, smaller(width, rest.len()))
+}
+
+// The byte at i.
+fn byte(data: &[u8], i: usize) -> u64
+    requires { ⌜ i < length (now «data») ⌝ }
+    ensures { λ r. ⌜ (r ≡ getD (now («data» .entry)) i 0) × (r < 256) ⌝ }
+{
+    data[i] as u64
+}
+
+// The number in the first 8 bytes: a sum, which becomes one load.
+fn read_u64(data: &[u8]) -> u64
+    requires { ⌜ 8 ≤ length (now «data») ⌝ }
+    ensures { λ r. ⌜ r ≡ num (now («data» .entry)) 0 8 ⌝ }
+{
+    byte(data, 0)
+        + 0x100 * byte(data, 1)
+        + 0x1_0000 * byte(data, 2)
+        + 0x100_0000 * byte(data, 3)
+        + 0x1_0000_0000 * byte(data, 4)
+        + 0x100_0000_0000 * byte(data, 5)
+        + 0x1_0000_0000_0000 * byte(data, 6)
+        + 0x100_0000_0000_0000 * byte(data, 7)
+}
+
+// The number in the low `width` bytes of x; a width above 8 counts as 8.
+fn low_bytes(x: u64, width: usize) -> u64
+    ensures { λ r. ⌜ r ≡ x % 256 ^ min width 8 ⌝ }
+{
+    if 8 <= width {
+        return x;
+    }
+    if width == 0 {
+        return 0;
+    }
+    let over = 64 - 8 * (width as u64);
+    (x << over) >> over
 }
 
 // The smaller of two numbers.
@@ -124,10 +164,13 @@ pub fn saturating_add(a: u64, b: u64) -> u64
     if a <= u64::MAX - b { a + b } else { u64::MAX }
 }
 
-// a * b, saturated at 2^64 - 1.
+// a * b, saturated at 2^64 - 1. Small factors need no quotient.
 pub fn saturating_mul(a: u64, b: u64) -> u64
     ensures { λ r. ⌜ r ≡ saturated (a * b) ⌝ }
 {
+    if a <= 0xffff_ffff && b <= 0xffff_ffff {
+        return a * b;
+    }
     if a == 0 {
         return 0;
     }
