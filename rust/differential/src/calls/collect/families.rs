@@ -3,9 +3,8 @@
 use super::Collecting;
 use crate::compare::graft::grafted;
 use crate::compare::sample::{self, for_each, Sample, Sizes};
-use crate::compare::{grid, same, Comparison, Held};
-use crate::inputs::Tree;
-use crate::model::{Geometry, LEVEL_LIMIT};
+use crate::compare::{same, Comparison, Held};
+use crate::model::Geometry;
 use crate::random::Random;
 
 /// The room in which the trees of small files end, or are not given to the Rust.
@@ -90,7 +89,7 @@ pub fn damaged(to: &mut Comparison, random: &mut Random) -> Held {
 pub fn with_made_up_headers(to: &mut Comparison, random: &mut Random) -> Held {
     for_each(to, random, |to, sample, random| {
         for _ in 0..HEADERS {
-            let tree = &made_up(sample, random);
+            let tree = &sample.made_up_header(random);
             let output = random.any_magnitude(2 * ROOM as u64) as usize;
             let case = of(sample, output);
             to.hold("made-up headers", &Collecting { tree, ..case })?;
@@ -99,30 +98,10 @@ pub fn with_made_up_headers(to: &mut Comparison, random: &mut Random) -> Held {
     })
 }
 
-/// A header that differs in some of its numbers.
-fn made_up(sample: &Sample, random: &mut Random) -> Tree {
-    let mut tree = sample.tree;
-    for _ in 0..=random.up_to(2) {
-        match random.up_to(8) {
-            0 => tree.depth = random.up_to(LEVEL_LIMIT.into()) as u16,
-            1 => tree.root_records = random.any_magnitude(u16::MAX.into()) as u16,
-            2 => tree.root_address = sample.any_address(random),
-            3 => tree.geometry.node_size = random.any_magnitude(u32::MAX.into()) as u32,
-            4 => tree.geometry.record_size = random.any_magnitude(u16::MAX.into()) as u16,
-            5 => tree.geometry.offset_size = random.up_to(255) as u8,
-            6 => tree.geometry.offset_size = grid::field_size(random),
-            7 => tree.total_records = random.any_magnitude(u64::MAX),
-            _ if random.up_to(9) == 0 => tree.depth = random.up_to(u16::MAX.into()) as u16,
-            _ => tree.tree_type = random.up_to(255) as u8,
-        }
-    }
-    tree
-}
-
 /// Nodes that point at one another at random, deep ones and shared ones among them.
 pub fn of_random_graphs(to: &mut Comparison, random: &mut Random) -> Held {
     for _ in 0..GRAPHS {
-        let (file, tree) = grafted(random);
+        let (file, tree) = grafted(Random::bytes, random);
         let output = match random.up_to(3) {
             0 => random.any_magnitude(ROOM as u64) as usize,
             _ => 4_000,
