@@ -1,5 +1,5 @@
-/* Writes an index of parking bays into a file, looks one bay up there, reads all of it back, prints it
- * and compares: index FILE. */
+/* Writes an index of parking bays into a file, looks one bay up there, reads all of it back, prints
+ * it and compares: index FILE. */
 #include <inttypes.h>
 #include <stdio.h>
 #include <stdlib.h>

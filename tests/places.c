@@ -91,8 +91,8 @@ static void writes(void) {
     hold(w[BTREE_V2_REFUSAL], BTREE_V2_ACCEPTED, "write");
 }
 
-/* Finds record 1 of the tree, the second of the leaf at its start, by its first two bytes; the records
- * rise in them. The figures are those of the header. */
+/* Finds record 1 of the tree, the second of the leaf at its start, by its first two bytes, in which
+ * the records rise. The figures are those of the header. */
 static void finds(const uint64_t figures[BTREE_V2_HEADER_FIGURES]) {
     uint64_t f[BTREE_V2_FIND_PLACES];
     const uint64_t key = records[RECORD_SIZE] + 256u * records[RECORD_SIZE + 1];

@@ -13,7 +13,8 @@ pub struct Writing<'a> {
     pub records: &'a [u8],
 }
 
-/// What is given to a collecting or a find, beside the file: a header's figures and the offset size.
+/// What is given to a collecting or a find, beside the file: a header's figures and the offset
+/// size.
 #[derive(Debug, Clone, Copy, PartialEq, Eq)]
 pub struct Tree {
     pub tree_type: u8,

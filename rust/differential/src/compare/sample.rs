@@ -29,6 +29,21 @@ pub struct Sizes {
 }
 
 impl Sizes {
+    pub const fn new(
+        node_size: u32,
+        record_size: u16,
+        offset_size: u8,
+        length_size: u8,
+        record_count: u64,
+    ) -> Sizes {
+        Sizes {
+            geometry: Geometry::new(node_size, record_size, offset_size),
+            length_size,
+            record_count,
+        }
+    }
+
+    /// Records of any bytes.
     pub fn any_records(&self, random: &mut Random) -> Vec<u8> {
         repeated(random, self.records_length())
     }
@@ -37,7 +52,7 @@ impl Sizes {
         header_size(self.geometry.offset_size, self.length_size)
     }
 
-    pub fn records_length(&self) -> usize {
+    fn records_length(&self) -> usize {
         self.record_count as usize * usize::from(self.geometry.record_size)
     }
 }
@@ -222,43 +237,29 @@ fn tree_of(given: &Writing, plan: &Plan) -> Tree {
 /// Small trees of every kind: empty, a leaf, a full leaf, thin and full trees of depth 1 to 4, one
 /// and two bytes for a count, all field sizes.
 const SMALL: [Sizes; 25] = [
-    small(40, 8, 8, 8, 0),
-    small(10, 1, 2, 2, 0),
-    small(40, 8, 8, 8, 1),
-    small(40, 8, 4, 2, 3),
-    small(26, 8, 8, 4, 2),
-    small(100, 1, 2, 8, 90),
-    small(1_034, 2, 8, 8, 512),
-    small(40, 8, 8, 8, 4),
-    small(40, 8, 2, 2, 4),
-    small(40, 8, 4, 8, 7),
-    small(48, 20, 8, 8, 3),
-    small(64, 3, 4, 4, 60),
-    small(128, 11, 8, 8, 50),
-    small(280, 1, 2, 4, 271),
-    small(280, 1, 4, 2, 700),
-    small(40, 8, 8, 8, 8),
-    small(40, 8, 2, 4, 15),
-    small(36, 4, 2, 2, 30),
-    small(64, 9, 4, 4, 40),
-    small(30, 2, 2, 8, 100),
-    small(40, 8, 8, 2, 16),
-    small(26, 2, 2, 2, 60),
-    small(24, 1, 2, 2, 100),
-    small(40, 8, 8, 4, 31),
-    small(40, 8, 8, 8, 33),
+    Sizes::new(40, 8, 8, 8, 0),
+    Sizes::new(10, 1, 2, 2, 0),
+    Sizes::new(40, 8, 8, 8, 1),
+    Sizes::new(40, 8, 4, 2, 3),
+    Sizes::new(26, 8, 8, 4, 2),
+    Sizes::new(100, 1, 2, 8, 90),
+    Sizes::new(1_034, 2, 8, 8, 512),
+    Sizes::new(40, 8, 8, 8, 4),
+    Sizes::new(40, 8, 2, 2, 4),
+    Sizes::new(40, 8, 4, 8, 7),
+    Sizes::new(48, 20, 8, 8, 3),
+    Sizes::new(64, 3, 4, 4, 60),
+    Sizes::new(128, 11, 8, 8, 50),
+    Sizes::new(280, 1, 2, 4, 271),
+    Sizes::new(280, 1, 4, 2, 700),
+    Sizes::new(40, 8, 8, 8, 8),
+    Sizes::new(40, 8, 2, 4, 15),
+    Sizes::new(36, 4, 2, 2, 30),
+    Sizes::new(64, 9, 4, 4, 40),
+    Sizes::new(30, 2, 2, 8, 100),
+    Sizes::new(40, 8, 8, 2, 16),
+    Sizes::new(26, 2, 2, 2, 60),
+    Sizes::new(24, 1, 2, 2, 100),
+    Sizes::new(40, 8, 8, 4, 31),
+    Sizes::new(40, 8, 8, 8, 33),
 ];
-
-const fn small(
-    node_size: u32,
-    record_size: u16,
-    offset_size: u8,
-    length_size: u8,
-    record_count: u64,
-) -> Sizes {
-    Sizes {
-        geometry: Geometry::new(node_size, record_size, offset_size),
-        length_size,
-        record_count,
-    }
-}

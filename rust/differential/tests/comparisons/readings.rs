@@ -1,4 +1,4 @@
-//! Finding: the points that document 02 leaves open, each on an input that tells the readings apart.
+//! Finding: the points that document 02 leaves open, each on an input that tells readings apart.
 
 use differential::compare::nodes::{Form, Pointer};
 use differential::model::Geometry;

@@ -4,7 +4,6 @@ use super::Collecting;
 use crate::compare::graft::grafted;
 use crate::compare::sample::{self, for_each, Sample, Sizes};
 use crate::compare::{same, Comparison, Held};
-use crate::model::Geometry;
 use crate::random::Random;
 
 /// The room in which the trees of small files end, or are not given to the Rust.
@@ -119,22 +118,14 @@ pub fn of_random_graphs(to: &mut Comparison, random: &mut Random) -> Held {
 
 /// Trees of up to millions of records, of depth 1 to 4, and how often each is damaged or cut.
 const LARGE: [(Sizes, usize); 7] = [
-    (large(65_536, 24, 8, 5_500_000), 1),
-    (large(2_048, 8, 8, 4_000_000), 2),
-    (large(4_096, 8, 8, 2_000_000), 3),
-    (large(512, 11, 8, 608_349), 8),
-    (large(512, 11, 4, 1_000_000), 4),
-    (large(65_536, 24, 4, 200_000), 20),
-    (large(100, 5, 4, 200_000), 20),
+    (Sizes::new(65_536, 24, 8, 8, 5_500_000), 1),
+    (Sizes::new(2_048, 8, 8, 8, 4_000_000), 2),
+    (Sizes::new(4_096, 8, 8, 8, 2_000_000), 3),
+    (Sizes::new(512, 11, 8, 8, 608_349), 8),
+    (Sizes::new(512, 11, 4, 8, 1_000_000), 4),
+    (Sizes::new(65_536, 24, 4, 8, 200_000), 20),
+    (Sizes::new(100, 5, 4, 8, 200_000), 20),
 ];
-
-const fn large(node_size: u32, record_size: u16, offset_size: u8, record_count: u64) -> Sizes {
-    Sizes {
-        geometry: Geometry::new(node_size, record_size, offset_size),
-        length_size: 8,
-        record_count,
-    }
-}
 
 /// Large files: whole, into a short output, cut anywhere, and with a bit or a byte turned anywhere.
 pub fn of_many_records(to: &mut Comparison, random: &mut Random) -> Held {

@@ -6,7 +6,7 @@ use crate::compare::keyed::{self, any_field, around, limits, Order, ORDERS};
 use crate::compare::sample::{any_sizes, small_sizes, Sample, Sizes};
 use crate::compare::{Comparison, Held};
 use crate::inputs::{Field, Tree};
-use crate::model::{key_of, Geometry};
+use crate::model::key_of;
 use crate::random::Random;
 
 /// Trees at any geometry, made-up headers for each small file, and random graphs of nodes.
@@ -113,19 +113,11 @@ pub fn as_written(to: &mut Comparison, random: &mut Random) -> Held {
 
 /// Sizes of trees for every field of a record.
 const FIELDS: [Sizes; 4] = [
-    sizes(64, 9, 4, 40),
-    sizes(40, 8, 8, 8),
-    sizes(128, 20, 8, 11),
-    sizes(30, 3, 2, 30),
+    Sizes::new(64, 9, 4, 8, 40),
+    Sizes::new(40, 8, 8, 8, 8),
+    Sizes::new(128, 20, 8, 8, 11),
+    Sizes::new(30, 3, 2, 8, 30),
 ];
-
-const fn sizes(node_size: u32, record_size: u16, offset_size: u8, record_count: u64) -> Sizes {
-    Sizes {
-        geometry: Geometry::new(node_size, record_size, offset_size),
-        length_size: 8,
-        record_count,
-    }
-}
 
 /// Every field of a record, and those just past the limits.
 pub fn at_the_limits_of_fields(to: &mut Comparison, random: &mut Random) -> Held {
@@ -343,11 +335,11 @@ fn any_key(file: &[u8], key: Field, random: &mut Random) -> u64 {
 
 /// Trees of up to a million records, of depth 1 to 4, and how often each is damaged or cut.
 const LARGE: [(Sizes, usize); 5] = [
-    (sizes(2_048, 8, 8, 1_000_000), 2),
-    (sizes(512, 11, 8, 100_000), 10),
-    (sizes(65_536, 24, 8, 200_000), 10),
-    (sizes(100, 5, 4, 200_000), 10),
-    (sizes(40, 8, 8, 20_000), 20),
+    (Sizes::new(2_048, 8, 8, 8, 1_000_000), 2),
+    (Sizes::new(512, 11, 8, 8, 100_000), 10),
+    (Sizes::new(65_536, 24, 8, 8, 200_000), 10),
+    (Sizes::new(100, 5, 4, 8, 200_000), 10),
+    (Sizes::new(40, 8, 8, 8, 20_000), 20),
 ];
 
 /// Large files with keys that never fall: whole, cut anywhere, and with a bit turned anywhere.

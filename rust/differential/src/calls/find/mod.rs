@@ -90,17 +90,14 @@ impl Collected {
 
 impl fmt::Display for Finding<'_> {
     fn fmt(&self, to: &mut fmt::Formatter) -> fmt::Result {
-        let Search {
-            file,
-            header,
-            offset_size,
-            key,
-        } = self.search;
         write!(
             to,
-            "{} by {key:?} of {header:?}, offset size {offset_size}, {}",
+            "{} by {:?} of {:?}, offset size {}, {}",
             self.sought,
-            beginning(file),
+            self.search.key,
+            self.search.header,
+            self.search.offset_size,
+            beginning(self.search.file),
         )
     }
 }
@@ -167,11 +164,11 @@ impl Case for Finding<'_> {
             true => 0,
             false => u64::from(tree.depth) + 1,
         };
-        let right = match number {
-            0 => nodes == levels,
-            _ => nodes < levels && found == 0,
+        let due = match number {
+            0 => (levels, found),
+            _ => (nodes.min(levels.saturating_sub(1)), 0),
         };
-        same(right, true, "nodes read and nothing found: right is", case)?;
+        same((nodes, found), due, "nodes and found are due as", case)?;
         match found {
             0 => same(place, 0, "a place of nothing", case)?,
             _ => {
