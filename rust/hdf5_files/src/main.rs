@@ -2,6 +2,7 @@
 
 mod bytes;
 mod check;
+mod find;
 mod graft;
 mod library;
 mod list;
@@ -13,6 +14,7 @@ use std::path::{Path, PathBuf};
 use std::process::ExitCode;
 
 use bytes::{same, Fault};
+use find::Finds;
 use graft::{Written, DAMAGES};
 use library::{files_py, Folder};
 use list::{Entries, List};
@@ -33,6 +35,7 @@ struct Real {
     bytes: Vec<u8>,
     list: List,
     trees: Vec<Tree>,
+    finds: Finds,
 }
 
 fn main() -> ExitCode {
@@ -53,19 +56,26 @@ fn run() -> Result<(), Fault> {
         "type  records  sizes  library: node size, depth, nodes   ours: node size/depth/nodes"
     );
     let (mut grafts, mut grown, mut damages) = (0, 0, 0);
+    let mut finds = Finds::default();
     for path in listed(made.path())? {
         let mut real = Real::read(&path)?;
         let ours = folder.inner("ours")?;
-        let written = real.graft_all(&ours)?;
+        finds.add(real.finds);
+        let written = real.graft_all(&ours, &mut finds)?;
         files_py("look", &[&made, &ours])?;
         grafts += written.len();
         real.print(&written)?;
-        grown += real.grow(&folder)?;
+        grown += real.grow(&folder, &mut finds)?;
         damages += real.notices(&folder, &made)?;
     }
     println!(
         "{grafts} files with our trees read by the library, {grown} changed by it and read again; \
          {damages} damages noticed"
+    );
+    println!(
+        "{} records found by their keys, {} of them those of another name with the same hash; {} \
+         keys that are not there",
+        finds.found, finds.shared, finds.absent
     );
     // A run over no files would show nothing.
     same("something done", grafts * grown * damages > 0, true)
@@ -96,17 +106,18 @@ impl Real {
         same("sizes", sizes, list.sizes)?;
         let trees = tree::trees(&bytes, sizes)?;
         let stem = path.file_stem().unwrap_or_default();
-        let real = Self {
+        let mut real = Self {
             name: stem.to_string_lossy().into_owned(),
             bytes,
             list,
             trees,
+            finds: Finds::default(),
         };
-        real.check()?;
+        real.finds = real.check()?;
         Ok(real)
     }
 
-    fn check(&self) -> Result<(), Fault> {
+    fn check(&self) -> Result<Finds, Fault> {
         check::file(
             &self.bytes,
             self.list.sizes,
@@ -115,24 +126,27 @@ impl Real {
         )
     }
 
-    /// A copy of the file for each node size, with our trees of that size.
-    fn graft_all(&self, folder: &Folder) -> Result<Vec<Vec<Written>>, Fault> {
+    /// A copy of the file for each node size, with our trees of that size, which ours reads too.
+    fn graft_all(&self, folder: &Folder, finds: &mut Finds) -> Result<Vec<Vec<Written>>, Fault> {
         let mut all = Vec::new();
         if self.unread() {
             return Ok(all);
         }
         for node_size in graft::node_sizes(self.trees[0].header.total_records) {
-            all.push(self.graft(folder, *node_size)?);
+            let (grafted, written) = self.graft(folder, *node_size)?;
+            let trees = tree::trees(&grafted, self.list.sizes)?;
+            let entries = &self.list.entries;
+            finds.add(check::file(&grafted, self.list.sizes, &trees, entries)?);
+            all.push(written);
         }
         Ok(all)
     }
 
     /// A copy of the file with our trees in nodes of this size.
-    fn graft(&self, folder: &Folder, node_size: u32) -> Result<Vec<Written>, Fault> {
-        let made = graft::graft(&self.bytes, self.list.sizes, &self.trees, node_size);
-        let (grafted, written) = made?;
-        self.save(folder, &node_size.to_string(), &grafted)?;
-        Ok(written)
+    fn graft(&self, folder: &Folder, node_size: u32) -> Result<(Vec<u8>, Vec<Written>), Fault> {
+        let made = graft::graft(&self.bytes, self.list.sizes, &self.trees, node_size)?;
+        self.save(folder, &node_size.to_string(), &made.0)?;
+        Ok(made)
     }
 
     /// Whether the library cannot read its own file.
@@ -141,7 +155,7 @@ impl Real {
     }
 
     /// Has the library change files with our trees, and reads these again. Returns how many.
-    fn grow(&self, folder: &Folder) -> Result<usize, Fault> {
+    fn grow(&self, folder: &Folder, finds: &mut Finds) -> Result<usize, Fault> {
         if self.unread() || self.trees[0].header.total_records > MOST_GROWN {
             return Ok(0);
         }
@@ -151,7 +165,7 @@ impl Real {
         }
         files_py("grow", &[&grown])?;
         for path in listed(grown.path())? {
-            Real::read(&path)?;
+            finds.add(Real::read(&path)?.finds);
         }
         Ok(GROWN_NODE_SIZES.len())
     }
