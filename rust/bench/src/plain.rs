@@ -51,40 +51,35 @@ pub fn find(file: &[u8], tree: &Tree, key: Field, sought: u64) -> Option<Option<
     if tree.total_records == 0 || tree.root_records == 0 {
         return Some(None);
     }
-    let record = tree.geometry.record_size;
-    let end = key.start.checked_add(key.width)?;
-    if record == 0
-        || tree.depth > LEVEL_LIMIT
-        || !(1..=8).contains(&key.width)
-        || end > record.into()
-    {
+    let size = usize::from(tree.geometry.record_size);
+    let bytes = key.start as usize..key.start.checked_add(key.width)? as usize;
+    let has_key = (1..=8).contains(&key.width) && bytes.end <= size;
+    if size == 0 || tree.depth > LEVEL_LIMIT || !has_key {
         return None;
     }
     let walk = Walk::new(file, tree);
-    let (start, width, record) = (key.start as usize, key.width as usize, usize::from(record));
     let (mut address, mut count) = (tree.root_address, tree.root_records);
     let mut found = None;
     for level in (0..=tree.depth).rev() {
-        let records = walk.records(level, address, count)?;
-        let mut i = 0;
-        for (place, record) in (records.start..)
-            .step_by(record)
-            .zip(file[records.clone()].chunks_exact(record))
-        {
-            let key = number(&record[start..start + width]);
-            if key >= sought {
-                if key == sought {
-                    found = Some(place);
-                }
-                break;
-            }
-            i += 1;
+        let Range { start, end } = walk.records(level, address, count)?;
+        let records = file[start..end].chunks_exact(size);
+        let mut keys = (0..).zip(records.map(|record| key_of(&record[bytes.clone()])));
+        let bound = keys.find(|(_, key)| *key >= sought);
+        let i = bound.map_or(count.into(), |(i, _)| i);
+        if bound.is_some_and(|(_, key)| key == sought) {
+            found = Some(start + i * size);
         }
         if level > 0 {
-            (address, count) = walk.child(level, records.end, i);
+            (address, count) = walk.child(level, end, i);
         }
     }
     Some(found)
+}
+
+/// The number in a key's bytes: for a few bytes quicker than `number`.
+fn key_of(bytes: &[u8]) -> u64 {
+    let bytes = bytes.iter().rev();
+    bytes.fold(0, |high, low| high << 8 | u64::from(*low))
 }
 
 /// The bytes of the numbers in a pointer: of a node's records, and of a subtree's by its level.

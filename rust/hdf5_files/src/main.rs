@@ -4,6 +4,7 @@ mod bytes;
 mod check;
 mod find;
 mod graft;
+mod lexists;
 mod library;
 mod list;
 mod superblock;
@@ -28,6 +29,9 @@ const DAMAGED_NODE_SIZE: u32 = 300;
 /// nodes of 160 bytes and fewer the library fails to change even its own trees.
 const MOST_GROWN: u64 = 10_000;
 const GROWN_NODE_SIZES: [u32; 4] = [300, 512, 2_048, 65_536];
+
+/// The file in which lookups by name are timed.
+const TIMED: &str = "links-100000-8-8";
 
 /// A real file, read.
 struct Real {
@@ -66,6 +70,7 @@ fn run() -> Result<(), Fault> {
         grafts += written.len();
         real.print(&written)?;
         grown += real.grow(&folder, &mut finds)?;
+        real.time(&path, &made)?;
         damages += real.notices(&folder, &made)?;
     }
     println!(
@@ -202,6 +207,27 @@ impl Real {
                 ours.join(" ")
             );
         }
+        Ok(())
+    }
+
+    /// A line of how long a lookup by name takes, in the file where that is timed.
+    fn time(&self, path: &Path, made: &Folder) -> Result<(), Fault> {
+        let Entries::Links(names) = &self.list.entries else {
+            return Ok(());
+        };
+        if self.name != TIMED {
+            return Ok(());
+        }
+        let by_name = self.trees.iter().find(|tree| tree.header.tree_type == 5);
+        let header = &by_name.ok_or("no tree by name")?.header;
+        let library = fs::read_to_string(made.path().join("library")).map_err(|e| e.to_string())?;
+        let times = lexists::time(&library, path, (&self.bytes, header), names)?;
+        println!(
+            "a name among {}: H5Lexists {:.0} ns, hash and find {:.0} ns",
+            names.len(),
+            times.lexists,
+            times.find
+        );
         Ok(())
     }
 
