@@ -2,11 +2,10 @@
 
 use std::hint::black_box;
 
+use differential::calls::typed;
 use differential::inputs::Tree;
 use differential::random::Random;
 use nuldrafon::{Field, Header, WriteRequest};
-
-use differential::calls::typed;
 
 use crate::cases::{finds, Case, LARGE, USUAL};
 use crate::plain;

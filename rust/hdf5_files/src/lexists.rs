@@ -1,6 +1,7 @@
 //! The time of a lookup by name, in one file: by the HDF5 library's H5Lexists, and by our find.
 
 use std::ffi::{c_char, c_int, c_uint, c_void, CString};
+use std::mem::transmute;
 use std::path::Path;
 
 use nuldrafon::{Field, Header};
@@ -91,10 +92,13 @@ type Id = i64;
 const DEFAULT: Id = 0;
 const READ_ONLY: c_uint = 0;
 
+type OpenFile = extern "C" fn(*const c_char, c_uint, Id) -> Id;
+type OfName<T> = extern "C" fn(Id, *const c_char, Id) -> T;
+
 /// The group of links in a file that the library has opened, and its function that tells of a name.
 struct Group {
     id: Id,
-    exists: extern "C" fn(Id, *const c_char, Id) -> c_int,
+    exists: OfName<c_int>,
 }
 
 impl Group {
@@ -110,11 +114,13 @@ impl Group {
             }
         };
         // SAFETY: these are the library's own declarations.
-        let open_file: extern "C" fn(*const c_char, c_uint, Id) -> Id =
-            unsafe { std::mem::transmute(function("H5Fopen")?) };
-        let open_group: extern "C" fn(Id, *const c_char, Id) -> Id =
-            unsafe { std::mem::transmute(function("H5Gopen2")?) };
-        let exists = unsafe { std::mem::transmute(function("H5Lexists")?) };
+        let (open_file, open_group, exists) = unsafe {
+            (
+                transmute::<*mut c_void, OpenFile>(function("H5Fopen")?),
+                transmute::<*mut c_void, OfName<Id>>(function("H5Gopen2")?),
+                transmute::<*mut c_void, OfName<c_int>>(function("H5Lexists")?),
+            )
+        };
         let file = open_file(text(&path.to_string_lossy()).as_ptr(), READ_ONLY, DEFAULT);
         let id = open_group(file, text("site").as_ptr(), DEFAULT);
         same("the library opens the group", id > 0, true)?;
