@@ -1,5 +1,5 @@
-/* Writes an index of parking bays into a file, reads it back from there, prints it and compares:
- * index FILE. */
+/* Writes an index of parking bays into a file, looks one bay up there, reads all of it back, prints
+ * it and compares: index FILE. */
 #include <inttypes.h>
 #include <stdio.h>
 #include <stdlib.h>
@@ -40,13 +40,18 @@ static int by_hash(const void *a, const void *b) {
     return (x > y) - (x < y);
 }
 
+/* The checksum of a bay's name. */
+static uint32_t hash_of(unsigned bay) {
+    char name[16];
+    int length = snprintf(name, sizeof name, "bay %02u", bay);
+    return checksum_jenkins_lookup3((const uint8_t *)name, (size_t)length);
+}
+
 /* The records of all bays end to end, by the checksum of the name; the id is the bay's number. */
 static void make_records(uint8_t *records) {
     for (unsigned bay = 1; bay <= BAYS; bay++) {
         uint8_t *record = records + (bay - 1) * RECORD_SIZE;
-        char name[16];
-        int length = snprintf(name, sizeof name, "bay %02u", bay);
-        uint32_t hash = checksum_jenkins_lookup3((const uint8_t *)name, (size_t)length);
+        uint32_t hash = hash_of(bay);
         memset(record, 0, RECORD_SIZE);
         for (int i = 0; i < HASH_SIZE; i++) record[i] = (uint8_t)(hash >> 8 * i);
         record[HASH_SIZE] = (uint8_t)bay;
@@ -91,6 +96,18 @@ static uint8_t *load(const char *path, size_t *size) {
     return bytes;
 }
 
+/* Looks a bay up by the checksum of its name, the first bytes of its record. */
+static void look_up(const uint8_t *file, size_t size, const uint64_t *figures, unsigned bay) {
+    uint64_t found[BTREE_V2_FIND_PLACES];
+    btree_v2_find(file, size, figures, OFFSET_SIZE, 0, HASH_SIZE, hash_of(bay), found);
+    accepted(found, "find");
+    must(found[BTREE_V2_FIND_FOUND] == 1, "finding a bay that is there");
+    uint64_t place = found[BTREE_V2_FIND_PLACE];
+    must(number(file + place + HASH_SIZE, RECORD_SIZE - HASH_SIZE) == bay, "the bay's own record");
+    printf("found: bay %02u at byte %" PRIu64 ", %" PRIu64 " nodes read\n", bay, place,
+           found[BTREE_V2_FIND_NODES]);
+}
+
 /* Reads the header and then the records that it leads to; returns how many there are. */
 static size_t read_index(const char *path, uint8_t *output, size_t output_length) {
     uint64_t header[BTREE_V2_PARSE_PLACES], collected[BTREE_V2_COLLECT_PLACES];
@@ -100,6 +117,7 @@ static size_t read_index(const char *path, uint8_t *output, size_t output_length
     accepted(header, "parse");
     must(header[BTREE_V2_PARSE_TREE_TYPE] == TREE_TYPE, "tree type");
     must(header[BTREE_V2_PARSE_RECORD_SIZE] == RECORD_SIZE, "record size");
+    look_up(file, size, header + BTREE_V2_PARSE_TREE_TYPE, 7);
 
     btree_v2_collect(
         file, size, (uint8_t)header[BTREE_V2_PARSE_TREE_TYPE],

@@ -1,5 +1,6 @@
-/* The fuzzer's driver: each input goes through the header reader, the collector and the look at a
- * leaf of the C library and through the shadow, which must agree in every number and every byte. */
+/* The fuzzer's driver: each input goes through the header reader, the collector, the look at a leaf
+ * and the find of the C library and through the shadow, which must agree in every number and every
+ * byte. */
 #include <inttypes.h>
 #include <stdio.h>
 #include <stdlib.h>
@@ -10,12 +11,13 @@
 #include "lent.h"
 #include "shadow.h"
 
-enum { CAUSES = BTREE_V2_DEPTH_ABOVE_LIMIT + 1 };
+enum { CAUSES = BTREE_V2_WRONG_KEY_FIELD + 1 };
 
-/* The places that are lent to the archive: the file, the output and the answer. */
-static struct lent file_place, output_place, answer_place;
-/* How often each answer was given. */
-static uint64_t inputs, parsed[CAUSES], collected[CAUSES], looked[CAUSES];
+/* The places that are lent to the archive: the file, a header's figures, the output and the
+ * answer. */
+static struct lent file_place, figures_place, output_place, answer_place;
+/* How often each answer was given, and how often a find found a record. */
+static uint64_t inputs, parsed[CAUSES], collected[CAUSES], looked[CAUSES], sought[CAUSES], found;
 
 static void tell(const char *call, const uint64_t counts[CAUSES]) {
     fprintf(stderr, "%s:", call);
@@ -29,12 +31,15 @@ static void tell_all(void) {
     tell("header reads", parsed);
     tell("collectings", collected);
     tell("looks at a leaf", looked);
+    tell("finds", sought);
+    fprintf(stderr, "finds of a record: %" PRIu64 "\n", found);
 }
 
 int LLVMFuzzerInitialize(int *count, char ***words);
 int LLVMFuzzerInitialize(int *count, char ***words) {
     (void)count, (void)words;
     file_place = lent_map();
+    figures_place = lent_map();
     output_place = lent_map();
     answer_place = lent_map();
     atexit(tell_all);
@@ -83,29 +88,21 @@ static void parse(struct source s, const uint8_t *front, bool at_the_end,
     parsed[due[BTREE_V2_REFUSAL]]++;
 }
 
-/* What the collector is given: the header that was read, or the numbers of the front. */
-static struct tree given(const uint8_t *front, const uint64_t header[BTREE_V2_PARSE_PLACES]) {
-    if ((front[AT_FLAGS] & BY_HEADER) != 0 && header[BTREE_V2_REFUSAL] == BTREE_V2_ACCEPTED)
-        return (struct tree){
-            .tree_type = (uint8_t)header[BTREE_V2_PARSE_TREE_TYPE],
-            .node_size = (uint32_t)header[BTREE_V2_PARSE_NODE_SIZE],
-            .record_size = (uint16_t)header[BTREE_V2_PARSE_RECORD_SIZE],
-            .depth = (uint16_t)header[BTREE_V2_PARSE_DEPTH],
-            .root_address = header[BTREE_V2_PARSE_ROOT_ADDRESS],
-            .root_records = (uint16_t)header[BTREE_V2_PARSE_ROOT_RECORDS],
-            .total_records = header[BTREE_V2_PARSE_TOTAL_RECORDS],
-            .offset_size = front[AT_OFFSET_SIZE],
-        };
-    return (struct tree){
-        .tree_type = front[AT_TREE_TYPE],
-        .node_size = (uint32_t)number(front + AT_NODE_SIZE, 4),
-        .record_size = (uint16_t)number(front + AT_RECORD_SIZE, 2),
-        .depth = (uint16_t)number(front + AT_DEPTH, 2),
-        .root_address = number(front + AT_ROOT_ADDRESS, 8),
-        .root_records = (uint16_t)number(front + AT_ROOT_RECORDS, 2),
-        .total_records = number(front + AT_TOTAL_RECORDS, 8),
-        .offset_size = front[AT_OFFSET_SIZE],
+/* The figures of a tree: those of the header that was read, or those of the front; and what they
+ * have above their ranges. */
+static void give(const uint8_t *front, const uint64_t header[BTREE_V2_PARSE_PLACES],
+                 uint64_t figures[BTREE_V2_HEADER_FIGURES]) {
+    static const int places[BTREE_V2_HEADER_FIGURES] = {
+        AT_TREE_TYPE,    AT_NODE_SIZE,    AT_RECORD_SIZE,   AT_DEPTH,
+        AT_ROOT_ADDRESS, AT_ROOT_RECORDS, AT_TOTAL_RECORDS,
     };
+    static const size_t widths[BTREE_V2_HEADER_FIGURES] = {1, 4, 2, 2, 8, 2, 8};
+    bool read = (front[AT_FLAGS] & BY_HEADER) != 0 && header[BTREE_V2_REFUSAL] == BTREE_V2_ACCEPTED;
+    uint64_t excess = number(front + AT_EXCESS, 4);
+    for (int i = 0; i < BTREE_V2_HEADER_FIGURES; i++) {
+        figures[i] = read ? header[1 + i] : number(front + places[i], widths[i]);
+        if (widths[i] < 8) figures[i] |= excess << 8 * widths[i];
+    }
 }
 
 /* The tree collected by both. */
@@ -149,6 +146,33 @@ static void look(struct source s, struct tree t, size_t length, bool at_the_end)
     free(expected);
 }
 
+/* A key sought by both. */
+static void find(struct source s, const uint8_t *front,
+                 const uint64_t figures[BTREE_V2_HEADER_FIGURES], bool at_the_end) {
+    uint64_t due[BTREE_V2_FIND_PLACES];
+    size_t bytes = BTREE_V2_HEADER_FIGURES * sizeof *figures;
+    struct sought key = {
+        .start = number(front + AT_KEY_START, 8),
+        .width = number(front + AT_KEY_WIDTH, 8),
+        .key = number(front + AT_KEY, 8),
+    };
+    uint8_t ow = front[AT_OFFSET_SIZE];
+    if (s.mend) {
+        shadow_find(s, figures, ow, key, due);
+        s.mend = false;
+    }
+    shadow_find(s, figures, ow, key, due);
+    const uint8_t *file = lend(file_place, s.file, s.length, at_the_end);
+    const void *header = lend(figures_place, figures, bytes, at_the_end);
+    uint64_t *answer = unset(BTREE_V2_FIND_PLACES, at_the_end);
+    btree_v2_find(file, s.length, header, ow, key.start, key.width, key.key, answer);
+    hold(answer, due, sizeof due, "the find");
+    hold(file, s.file, s.length, "the file, after the find");
+    hold(header, figures, bytes, "the header's figures, after the find");
+    sought[due[BTREE_V2_REFUSAL]]++;
+    found += due[BTREE_V2_FIND_FOUND];
+}
+
 int LLVMFuzzerTestOneInput(const uint8_t *data, size_t size);
 int LLVMFuzzerTestOneInput(const uint8_t *data, size_t size) {
     if (size < AT_FILE || size - AT_FILE > LENT_MOST) return 0;
@@ -163,9 +187,12 @@ int LLVMFuzzerTestOneInput(const uint8_t *data, size_t size) {
     }
     parse((struct source){s.file, s.length, false}, data, at_the_end, header);
     size_t output = number(data + AT_OUTPUT_LENGTH, 2) % (MOST_OUTPUT + 1);
-    struct tree t = given(data, header);
+    uint64_t figures[BTREE_V2_HEADER_FIGURES];
+    give(data, header, figures);
+    struct tree t = tree_of(figures, data[AT_OFFSET_SIZE]);
     collect(s, t, output, at_the_end);
     look((struct source){s.file, s.length, false}, t, output, at_the_end);
+    find(s, data, figures, at_the_end);
     free(s.file);
     inputs++;
     return 0;

@@ -27,7 +27,7 @@ ids=()
 for ((i = 0; i < processes; i++)); do
     seed=$((RANDOM * 32768 + RANDOM + 1))
     echo "fuzzing from seed $seed for $seconds seconds"
-    "$out/readers" -seed=$seed -max_total_time="$seconds" -max_len=4136 -timeout=20 \
+    "$out/readers" -seed=$seed -max_total_time="$seconds" -max_len=4164 -timeout=20 \
         -use_value_profile=1 -artifact_prefix="$out/" "$out/corpus" >"$out/$i.log" 2>&1 &
     ids+=($!)
 done
@@ -39,7 +39,7 @@ for _ in "${ids[@]}"; do
     fi
 done
 for ((i = 0; i < processes; i++)); do
-    grep -hE '^(agreed|header reads|collectings|looks|Done|.*(differ:|ERROR:|SUMMARY:|Test unit written))' \
+    grep -hE '^(agreed|header reads|collectings|looks|finds|Done|.*(differ:|ERROR:|SUMMARY:|Test unit written))' \
         "$out/$i.log" || true
 done
 if [ "$status" -ne 0 ]; then

@@ -1,5 +1,5 @@
-/* Writes the fuzzer's first inputs into a folder: trees as btree_v2_write writes them, and towers of
- * one node for each of 33 levels. */
+/* Writes the fuzzer's first inputs into a folder: trees as btree_v2_write writes them, each with the
+ * key of one of its records, and towers of one node for each of 33 levels. */
 #include <stdio.h>
 #include <stdlib.h>
 #include <string.h>
@@ -31,13 +31,20 @@ static const struct shape towers[] = {
 };
 
 static uint8_t input[AT_FILE + MOST_FILE];
+/* How often the key of a tree of this depth is found. */
+static int found[BTREE_V2_LEVELS];
 
 static void place(uint8_t *at, uint64_t x, int width) {
     for (; width > 0; width--, x >>= 8) *at++ = (uint8_t)x;
 }
 
-/* The front of an input: a tree's figures as the header reader answers them, the header at 0. */
-static void front(const struct shape *s, const uint64_t header[BTREE_V2_PARSE_PLACES], int flags) {
+/* The bytes of a shape's keys, which end its records. */
+static uint64_t key_width(const struct shape *s) { return (s->record_size + UINT64_C(1)) / 2; }
+
+/* The front of an input: a tree's figures as the header reader answers them, the header at 0, and a
+ * key. Every second key is sought by figures above their ranges. */
+static void front(const struct shape *s, const uint64_t header[BTREE_V2_PARSE_PLACES], uint64_t key,
+                  int flags) {
     input[AT_FLAGS] = (uint8_t)flags;
     input[AT_OFFSET_SIZE] = s->offset_size;
     input[AT_LENGTH_SIZE] = s->length_size;
@@ -50,6 +57,10 @@ static void front(const struct shape *s, const uint64_t header[BTREE_V2_PARSE_PL
     place(input + AT_ROOT_ADDRESS, header[BTREE_V2_PARSE_ROOT_ADDRESS], 8);
     place(input + AT_ROOT_RECORDS, header[BTREE_V2_PARSE_ROOT_RECORDS], 2);
     place(input + AT_TOTAL_RECORDS, header[BTREE_V2_PARSE_TOTAL_RECORDS], 8);
+    place(input + AT_KEY_START, s->record_size - key_width(s), 8);
+    place(input + AT_KEY_WIDTH, key_width(s), 8);
+    place(input + AT_KEY, key, 8);
+    place(input + AT_EXCESS, key % 2, 4);
 }
 
 /* Writes the first bytes of the input to a file of the folder; 0 where that went well. */
@@ -62,21 +73,27 @@ static int save(const char *folder, const char *kind, size_t i, int flags, size_
     return fclose(out) != 0 || put != bytes;
 }
 
-/* A written tree. */
+/* A written tree, whose keys ascend where they have room for that. */
 static int tree(const char *folder, size_t i, int flags) {
     static uint8_t records[MOST_FILE];
     const struct shape *s = &shapes[i];
     uint8_t *file = input + AT_FILE;
     uint64_t answer[BTREE_V2_PLAN_PLACES], header[BTREE_V2_PARSE_PLACES];
+    uint64_t sought[BTREE_V2_FIND_PLACES], width = key_width(s), key = 1 + s->records * 2 / 3;
     size_t length = s->records * s->record_size;
     for (size_t j = 0; j < length; j++) records[j] = (uint8_t)(j * 7 + i);
+    for (uint64_t j = 1; j <= s->records; j++)
+        place(records + j * s->record_size - width, j, (int)width);
     memset(file, 0, MOST_FILE);
     btree_v2_write(5, s->records, s->record_size, s->node_size, s->offset_size, s->length_size,
                    IMAGE_AT, records, length, file, IMAGE_AT, file + IMAGE_AT,
                    MOST_FILE - IMAGE_AT, answer);
     btree_v2_parse(file, MOST_FILE, 0, s->offset_size, s->length_size, header);
     if (answer[BTREE_V2_REFUSAL] != 0 || header[BTREE_V2_REFUSAL] != 0) return 1;
-    front(s, header, flags);
+    btree_v2_find(file, MOST_FILE, header + 1, s->offset_size, s->record_size - width, width, key,
+                  sought);
+    found[header[BTREE_V2_PARSE_DEPTH]] += (int)sought[BTREE_V2_FIND_FOUND];
+    front(s, header, key, flags);
     return save(folder, "tree", i, flags, AT_FILE + IMAGE_AT + answer[BTREE_V2_PLAN_IMAGE_SIZE]);
 }
 
@@ -104,7 +121,7 @@ static int tower(const char *folder, size_t i, int flags) {
     }
     uint64_t header[BTREE_V2_PARSE_PLACES] = {
         0, 5, s->node_size, s->record_size, DEEPEST, below, 1, UINT64_MAX};
-    front(s, header, flags);
+    front(s, header, 0, flags);
     return save(folder, "tower", i, flags, (size_t)(at - input));
 }
 
@@ -118,5 +135,10 @@ int main(int count, char **words) {
             failed |= tower(words[1], i, flags);
     }
     if (failed) fprintf(stderr, "an input could not be made\n");
+    for (int depth = 0; depth <= 2; depth++) {
+        if (found[depth] != 0) continue;
+        fprintf(stderr, "no key of a tree of depth %d is found\n", depth);
+        failed = 1;
+    }
     return failed;
 }

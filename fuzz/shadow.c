@@ -66,6 +66,19 @@ void shadow_parse(struct source source, uint64_t offset, uint8_t offset_size, ui
     header(source, offset, offset_size, length_size, answer);
 }
 
+struct tree tree_of(const uint64_t figures[7], uint8_t offset_size) {
+    return (struct tree){
+        .tree_type = (uint8_t)figures[0],
+        .node_size = (uint32_t)figures[1],
+        .record_size = (uint16_t)figures[2],
+        .depth = (uint16_t)figures[3],
+        .root_address = figures[4],
+        .root_records = (uint16_t)figures[5],
+        .total_records = figures[6],
+        .offset_size = offset_size,
+    };
+}
+
 /* A walk over a tree: what it goes by, and what it has come to. */
 struct walk {
     struct source s;
@@ -83,14 +96,19 @@ static uint8_t width(uint64_t count) {
     return bytes;
 }
 
+/* The bytes of a pointer in a node of this level. */
+static uint64_t pointer_width(const struct walk *w, unsigned level) {
+    return w->t.offset_size + (uint64_t)w->count_width + w->total_width[level - 1];
+}
+
 /* The widths of a pointer's fields: the records' and, by the level of the child, the totals'. */
 static void widths(struct walk *w) {
     uint64_t size = w->t.node_size, record = w->t.record_size;
     uint64_t under = size <= 10 ? 0 : (size - 10) / record;
     w->count_width = width(under);
     w->total_width[0] = 0;
-    for (int level = 1; level <= 32; level++) {
-        uint64_t pointer = w->t.offset_size + (uint64_t)w->count_width + w->total_width[level - 1];
+    for (unsigned level = 1; level <= 32; level++) {
+        uint64_t pointer = pointer_width(w, level);
         uint64_t most = size <= 10 + pointer ? 0 : (size - 10 - pointer) / (record + pointer);
         unsigned __int128 all = (unsigned __int128)(most + 1) * under + most;
         under = all > UINT64_MAX ? UINT64_MAX : (uint64_t)all;
@@ -133,30 +151,43 @@ static bool leaf(struct walk *w, uint64_t address, uint16_t count) {
 
 static bool node(struct walk *w, unsigned level, uint64_t address, uint16_t count);
 
+/* Goes from an internal node that has passed its tests to its child i: address and records. */
+static void go_below(const struct walk *w, unsigned level, size_t i, uint64_t *address,
+                     uint16_t *count) {
+    const uint8_t *pointers = w->s.file + *address + 6 + (size_t)*count * w->t.record_size;
+    const uint8_t *pointer = pointers + i * pointer_width(w, level);
+    *address = number(pointer, w->t.offset_size);
+    *count = (uint16_t)number(pointer + w->t.offset_size, w->count_width);
+}
+
 /* Child by child, with a record after each but the last. */
 static bool children(struct walk *w, unsigned level, uint64_t address, uint16_t count) {
     const uint8_t *records = w->s.file + address + 6;
-    const uint8_t *pointer = records + (size_t)count * w->t.record_size;
     for (size_t i = 0; i <= count; i++) {
-        uint64_t child = number(pointer, w->t.offset_size);
-        uint64_t below = number(pointer + w->t.offset_size, w->count_width) % 65536;
-        if (!node(w, level - 1, child, (uint16_t)below)) return false;
+        uint64_t child = address;
+        uint16_t below = count;
+        go_below(w, level, i, &child, &below);
+        if (!node(w, level - 1, child, below)) return false;
         if (i < count) {
             if (!put(w, records + i * w->t.record_size)) return false;
             w->internal_records++;
         }
-        pointer += w->t.offset_size + w->count_width + w->total_width[level - 1];
     }
     return true;
 }
 
-static bool internal(struct walk *w, unsigned level, uint64_t address, uint16_t count) {
+/* An internal node's tests. */
+static bool internal_passes(struct walk *w, unsigned level, uint64_t address, uint16_t count) {
     if (!begins(w, address, "BTIN")) return false;
     uint64_t rest = w->s.length - address, bytes = (uint64_t)count * w->t.record_size;
-    uint64_t pointer = w->t.offset_size + (uint64_t)w->count_width + w->total_width[level - 1];
+    uint64_t pointers = (count + UINT64_C(1)) * pointer_width(w, level);
     if (!there(6, bytes, rest, w->answer)) return false;
-    if (!there(6 + bytes, (count + UINT64_C(1)) * pointer, rest, w->answer)) return false;
-    if (!is_field_size(w->t.offset_size)) return refuse(w->answer, 4, w->t.offset_size, 0);
+    if (!there(6 + bytes, pointers, rest, w->answer)) return false;
+    return is_field_size(w->t.offset_size) || refuse(w->answer, 4, w->t.offset_size, 0);
+}
+
+static bool internal(struct walk *w, unsigned level, uint64_t address, uint16_t count) {
+    if (!internal_passes(w, level, address, count)) return false;
     w->internals++;
     return children(w, level, address, count);
 }
@@ -165,17 +196,21 @@ static bool node(struct walk *w, unsigned level, uint64_t address, uint16_t coun
     return level == 0 ? leaf(w, address, count) : internal(w, level, address, count);
 }
 
+static bool is_empty(const struct tree *t) { return t->total_records == 0 || t->root_records == 0; }
+
+/* The tests before the root. */
+static bool root_passes(struct walk *w) {
+    if (w->t.record_size == 0) return refuse(w->answer, 8, 0, 0);
+    return w->t.depth <= 32 || refuse(w->answer, 16, w->t.depth, 0);
+}
+
 void shadow_collect(struct source source, struct tree tree, uint8_t *output, size_t output_length,
                     uint64_t answer[7]) {
     struct walk w = {.s = source, .t = tree, .output = output, .output_length = output_length,
                      .answer = answer};
     memset(answer, 0, 7 * sizeof *answer);
-    if (tree.total_records == 0 || tree.root_records == 0) return;
-    if (tree.record_size == 0) {
-        refuse(answer, 8, 0, 0);
-    } else if (tree.depth > 32) {
-        refuse(answer, 16, tree.depth, 0);
-    } else {
+    if (is_empty(&tree)) return;
+    if (root_passes(&w)) {
         widths(&w);
         node(&w, tree.depth, tree.root_address, tree.root_records);
     }
@@ -200,4 +235,55 @@ void shadow_leaf_record(struct source source, struct tree tree, uint64_t index, 
     struct walk w = {.s = source, .t = tree, .answer = answer};
     memset(answer, 0, 3 * sizeof *answer);
     record(&w, index, output, output_length);
+}
+
+/* Whether a record has the whole key, of 1 to 8 bytes. */
+static bool has_key(uint64_t record_size, const struct sought *sought) {
+    return 1 <= sought->width && sought->width <= 8 && sought->start <= record_size &&
+           sought->width <= record_size - sought->start;
+}
+
+/* One node of each level, from the root to a leaf: in each the first record whose key is not below
+ * the one sought leads on, and of these the last with that key is found: 1 and its place. */
+static bool descend(struct walk *w, const struct sought *sought, uint64_t found[2]) {
+    uint64_t address = w->t.root_address;
+    uint16_t count = w->t.root_records;
+    for (unsigned level = w->t.depth;; level--) {
+        bool passes = level == 0 ? leaf_passes(w, address, count)
+                                 : internal_passes(w, level, address, count);
+        if (!passes) return false;
+        w->answer[3]++;
+        uint64_t key = 0;
+        uint16_t i = 0;
+        for (; i < count; i++) {
+            const uint8_t *record = w->s.file + address + 6 + (size_t)i * w->t.record_size;
+            key = number(record + sought->start, sought->width);
+            if (key >= sought->key) break;
+        }
+        if (i < count && key == sought->key) {
+            found[0] = 1;
+            found[1] = address + 6 + (uint64_t)i * w->t.record_size;
+        }
+        if (level == 0) return true;
+        go_below(w, level, i, &address, &count);
+    }
+}
+
+/* The tests of a find in their order; then the descent. */
+static bool find(struct walk *w, const struct sought *sought) {
+    uint64_t found[2] = {0, 0};
+    if (is_empty(&w->t)) return true;
+    if (!root_passes(w)) return false;
+    if (!has_key(w->t.record_size, sought)) return refuse(w->answer, 17, 0, 0);
+    widths(w);
+    if (!descend(w, sought, found)) return false;
+    memcpy(w->answer + 4, found, sizeof found);
+    return true;
+}
+
+void shadow_find(struct source source, const uint64_t figures[7], uint8_t offset_size,
+                 struct sought sought, uint64_t answer[6]) {
+    struct walk w = {.s = source, .t = tree_of(figures, offset_size), .answer = answer};
+    memset(answer, 0, 6 * sizeof *answer);
+    find(&w, &sought);
 }

@@ -21,16 +21,26 @@ struct tree {
     uint8_t tree_type, offset_size;
 };
 
+/* What is sought: a key, and where records have theirs. */
+struct sought {
+    uint64_t start, width, key;
+};
+
 /* The number in `width` bytes, at most 8, lowest first. */
 uint64_t number(const uint8_t *bytes, size_t width);
 
-/* The answers of btree_v2_parse, of btree_v2_collect, and of btree_v2_leaf_record for the root of a
- * tree as a leaf. */
+/* The tree of a header's seven figures, each modulo the range of its field. */
+struct tree tree_of(const uint64_t figures[7], uint8_t offset_size);
+
+/* The answers of btree_v2_parse, of btree_v2_collect, of btree_v2_leaf_record for the root of a tree
+ * as a leaf, and of btree_v2_find. */
 void shadow_parse(struct source source, uint64_t offset, uint8_t offset_size, uint8_t length_size,
                   uint64_t answer[8]);
 void shadow_collect(struct source source, struct tree tree, uint8_t *output, size_t output_length,
                     uint64_t answer[7]);
 void shadow_leaf_record(struct source source, struct tree tree, uint64_t index, uint8_t *output,
                         size_t output_length, uint64_t answer[3]);
+void shadow_find(struct source source, const uint64_t figures[7], uint8_t offset_size,
+                 struct sought sought, uint64_t answer[6]);
 
 #endif

@@ -52,7 +52,9 @@ enum btree_v2_refusal {
     /* An output is too short [its length]. */
     BTREE_V2_OUTPUT_TOO_SHORT = 15,
     /* The depth is above 32 [depth]. */
-    BTREE_V2_DEPTH_ABOVE_LIMIT = 16
+    BTREE_V2_DEPTH_ABOVE_LIMIT = 16,
+    /* The key's field has not 1 to 8 bytes, or runs past the record's end. */
+    BTREE_V2_WRONG_KEY_FIELD = 17
 };
 
 /* The levels that a capacity table has: 0, that of the leaves, to 32. */
@@ -147,6 +149,38 @@ enum { BTREE_V2_LEAF_RECORD_LENGTH = 1, BTREE_V2_LEAF_RECORD_PLACES = 3 };
 void btree_v2_leaf_record(const uint8_t *file, size_t file_length, uint64_t address, uint16_t count,
                           uint16_t record_size, uint64_t index, uint8_t *output,
                           size_t output_length, uint64_t answer[BTREE_V2_LEAF_RECORD_PLACES]);
+
+/*
+ * The figures of a header: places 1 to 7 of btree_v2_parse's answer, so that
+ * `answer + BTREE_V2_PARSE_TREE_TYPE` can be handed over as it is. A number above its field's range
+ * counts modulo 2^8 (tree type), 2^32 (node size), 2^16 (record size), 2^16 (depth), 2^64 (root
+ * address), 2^16 (root's records), 2^64 (records in all).
+ */
+enum { BTREE_V2_HEADER_FIGURES = 7 };
+
+/* Places of the answer of btree_v2_find; the nodes are given in a refused call too. */
+enum {
+    BTREE_V2_FIND_NODES = 3, /* nodes read, at most depth + 1 */
+    BTREE_V2_FIND_FOUND = 4, /* 1 where a record was found, else 0 */
+    BTREE_V2_FIND_PLACE = 5, /* place in the file of its first byte; 0 where none was found */
+    BTREE_V2_FIND_PLACES = 6
+};
+
+/*
+ * Finds a record of a tree in the file by its key: the number in the `key_width` bytes from
+ * `key_start` of the record on, low byte first. It reads one node of each level, and no other. In
+ * each the first record whose key is not below the one sought leads to the child before it, and
+ * where there is none such the last child is taken; the answer is the last of these records, the
+ * leaf's included, that has the key sought. Where collecting accepts the tree and its keys, in that
+ * order, never fall, this is the first record with the key, and none is found only where no record
+ * has it; in any other file a record that has the key can be missed. A tree without records is
+ * accepted, and nothing found, before anything else is looked at. Refusals in this order: 8, 16,
+ * 17, then those of the nodes read, as in collecting (1, 2, 4, 6).
+ */
+void btree_v2_find(const uint8_t *file, size_t file_length,
+                   const uint64_t header[BTREE_V2_HEADER_FIGURES], uint8_t offset_size,
+                   uint64_t key_start, uint64_t key_width, uint64_t key,
+                   uint64_t answer[BTREE_V2_FIND_PLACES]);
 
 #ifdef __cplusplus
 }

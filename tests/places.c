@@ -91,6 +91,24 @@ static void writes(void) {
     hold(w[BTREE_V2_REFUSAL], BTREE_V2_ACCEPTED, "write");
 }
 
+/* Finds record 1 of the tree, the second of the leaf at its start, by its first two bytes, in which
+ * the records rise. The figures are those of the header. */
+static void finds(const uint64_t figures[BTREE_V2_HEADER_FIGURES]) {
+    uint64_t f[BTREE_V2_FIND_PLACES];
+    const uint64_t key = records[RECORD_SIZE] + 256u * records[RECORD_SIZE + 1];
+    btree_v2_find(file, sizeof file, figures, WIDTH, 0, 2, key, f);
+    hold(f[BTREE_V2_REFUSAL], BTREE_V2_ACCEPTED, "find");
+    hold(f[BTREE_V2_FIND_NODES], 2, "nodes read");
+    hold(f[BTREE_V2_FIND_FOUND], 1, "found");
+    hold(f[BTREE_V2_FIND_PLACE], START + 6 + RECORD_SIZE, "place");
+    btree_v2_find(file, sizeof file, figures, WIDTH, 0, 2, key + 1, f);
+    hold(f[BTREE_V2_FIND_NODES], 2, "nodes read for a key that is missing");
+    hold(f[BTREE_V2_FIND_FOUND], 0, "found nothing");
+    hold(f[BTREE_V2_FIND_PLACE], 0, "place of nothing");
+    btree_v2_find(file, sizeof file, figures, WIDTH, RECORD_SIZE - 1, 2, key, f);
+    refused(f, BTREE_V2_WRONG_KEY_FIELD, 0, 0);
+}
+
 /* Reads what the last write left. */
 static void reads(void) {
     uint64_t h[BTREE_V2_PARSE_PLACES], c[BTREE_V2_COLLECT_PLACES], r[BTREE_V2_LEAF_RECORD_PLACES];
@@ -117,6 +135,8 @@ static void reads(void) {
     btree_v2_leaf_record(file, sizeof file, START, 2, RECORD_SIZE, 1, output, sizeof output, r);
     hold(r[BTREE_V2_REFUSAL], BTREE_V2_ACCEPTED, "look at a leaf");
     hold(r[BTREE_V2_LEAF_RECORD_LENGTH], RECORD_SIZE, "length of the record");
+
+    finds(h + BTREE_V2_PARSE_TREE_TYPE);
 
     btree_v2_parse(file, 3, 0, WIDTH, WIDTH, h);
     refused(h, BTREE_V2_FILE_ENDS_EARLY, 4, 3);

@@ -1,6 +1,7 @@
 """Real HDF5 files: made with the HDF5 library, and everything in them looked up by it.
 
-    files.py make REAL              makes the files, and a list beside each of what the library says
+    files.py make REAL              makes the files, and a list beside each of what the library says;
+                                    a file `library` says where the library is
     files.py look REAL OURS         the library must say the same of each NAME.VARIANT.h5 in OURS
     files.py refuse REAL DAMAGED    the library must say something else of each file, or fail
     files.py grow OURS              adds and removes entries in each file, and makes a list of it
@@ -290,6 +291,7 @@ def make(folder):
             write_list(path, listed(enumerate(map(name, numbers(entries)))))
         else:
             write_list(path, said(path))
+    (folder / "library").write_text(LIBRARY._name)
     print(f"HDF5 {h5py.version.hdf5_version}, h5py {h5py.version.version}")
 
 

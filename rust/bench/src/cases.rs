@@ -10,9 +10,10 @@ pub const INPUT: [&str; 3] = ["NS/RS/OW", "records", "depth"];
 const SMALL: Geometry = Geometry::new(64, 11, 8);
 pub const USUAL: Geometry = Geometry::new(512, 11, 8);
 const PAGE: Geometry = Geometry::new(4_096, 24, 8);
-const LARGE: Geometry = Geometry::new(65_536, 24, 8);
+pub const LARGE: Geometry = Geometry::new(65_536, 24, 8);
 const FEW: &[u64] = &[1_000, 100_000, 1_000_000, MOST_RECORDS];
 const MORE: &[u64] = &[1_000, 100_000, 1_000_000, 5_000_000, MOST_RECORDS];
+const SOUGHT: &[u64] = &[1_000, 100_000, 5_000_000];
 /// Two records in a leaf and one in a node, the deepest trees; the first count takes most calls.
 const DEEP: Geometry = Geometry::new(44, 8, 8);
 const DEEPEST: &[u64] = &[10_793_656, MOST_RECORDS];
@@ -52,6 +53,13 @@ pub fn trees() -> impl Iterator<Item = Case> {
 /// The trees that are planned: the deepest ones, too.
 pub fn plans() -> impl Iterator<Item = Case> {
     trees().chain(of((DEEP, DEEPEST)))
+}
+
+/// The trees in which records are found.
+pub fn finds() -> impl Iterator<Item = Case> {
+    [(SMALL, &SOUGHT[1..2]), (USUAL, SOUGHT), (LARGE, SOUGHT)]
+        .into_iter()
+        .flat_map(of)
 }
 
 fn of((geometry, counts): (Geometry, &'static [u64])) -> impl Iterator<Item = Case> {

@@ -4,6 +4,7 @@
 mod cases;
 mod checksum;
 mod collect;
+mod find;
 mod header;
 mod machine;
 mod memory;
@@ -17,11 +18,12 @@ mod write;
 static HEAP: memory::Counted = memory::Counted;
 
 /// The parts; the header reader's takes its headers from the collector's files.
-const PARTS: [(&str, fn()); 5] = [
+const PARTS: [(&str, fn()); 6] = [
     ("checksum", checksum::run),
     ("plan", plan::run),
     ("write", write::run),
     ("read", || header::run(&collect::run())),
+    ("find", find::run),
     ("types", typed::run),
 ];
 

@@ -5,7 +5,7 @@ use std::hint::black_box;
 use differential::calls::{collect::Collecting, typed, write::Draft, Case as _};
 use differential::compare::sample::Sample;
 use differential::inputs::Writing;
-use nuldrafon::{raw, Header};
+use nuldrafon::{raw, Field, Header};
 
 use crate::cases::{Case, USUAL};
 use crate::collect::sample;
@@ -19,6 +19,7 @@ pub fn run() {
     let sample = sample(&Case::new(USUAL, RECORDS));
     plan_and_parse(&mut section, &sample);
     write_and_collect(&mut section, &sample);
+    find(&mut section, &sample);
 }
 
 fn plan_and_parse(section: &mut Section, sample: &Sample) {
@@ -68,6 +69,18 @@ fn write_and_collect(section: &mut Section, sample: &Sample) {
     ];
     section.row(&["collect".to_string()], 1, contenders);
     assert!(output == sample.records && other[0] == sample.records);
+}
+
+fn find(section: &mut Section, sample: &Sample) {
+    let (file, header) = (&sample.file[..], typed::header(&sample.tree));
+    let (field, figures, ow) = (Field::new(0, 8), header.figures(), USUAL.offset_size);
+    // Records in any order: whatever is found, both read the same nodes.
+    let sought = u64::MAX / 2;
+    let contenders = vec![
+        typed_by(|| black_box(header).find(black_box(file), field, sought)),
+        as_it_is(|| raw::find(black_box(file), black_box(&figures), ow, 0, 8, sought)),
+    ];
+    section.row(&["find".to_string()], 1, contenders);
 }
 
 fn typed_by<'a, T>(call: impl FnMut() -> T + 'a) -> Contender<'a> {

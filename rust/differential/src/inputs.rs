@@ -13,7 +13,8 @@ pub struct Writing<'a> {
     pub records: &'a [u8],
 }
 
-/// What is given to a collecting, beside the file: a header's figures and the offset size.
+/// What is given to a collecting or a find, beside the file: a header's figures and the offset
+/// size.
 #[derive(Debug, Clone, Copy, PartialEq, Eq)]
 pub struct Tree {
     pub tree_type: u8,
@@ -25,6 +26,23 @@ pub struct Tree {
 }
 
 impl Tree {
+    /// What figures come to: each counts modulo the numbers of its field.
+    pub fn of_figures(figures: [u64; 7], offset_size: u8) -> Tree {
+        let [tree_type, node_size, record_size, depth, root_address, root_records, total] = figures;
+        Tree {
+            tree_type: (tree_type % (1 << 8)) as u8,
+            geometry: Geometry {
+                node_size: (node_size % (1 << 32)) as u32,
+                record_size: (record_size % (1 << 16)) as u16,
+                offset_size,
+            },
+            depth: (depth % (1 << 16)) as u16,
+            root_address,
+            root_records: (root_records % (1 << 16)) as u16,
+            total_records: total,
+        }
+    }
+
     /// The figures that the header reader answers.
     pub fn figures(&self) -> [u64; 7] {
         [
@@ -36,6 +54,19 @@ impl Tree {
             self.root_records.into(),
             self.total_records,
         ]
+    }
+}
+
+/// A number inside a record: the place of its first byte, and how many it has.
+#[derive(Debug, Clone, Copy, PartialEq, Eq)]
+pub struct Field {
+    pub start: u64,
+    pub width: u64,
+}
+
+impl Field {
+    pub const fn new(start: u64, width: u64) -> Field {
+        Field { start, width }
     }
 }
 

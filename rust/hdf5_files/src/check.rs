@@ -4,6 +4,7 @@ use std::collections::HashMap;
 use std::ops::Range;
 
 use crate::bytes::{number, part, same, Fault};
+use crate::find::{Finds, Index};
 use crate::list::{Chunk, Entries, Named};
 use crate::superblock::Sizes;
 use crate::tree::Tree;
@@ -34,8 +35,8 @@ const ATTRIBUTES: Layout = Layout {
     keys: [0..13, 0..13],
 };
 
-/// Holds the trees of a file to its list.
-pub fn file(file: &[u8], sizes: Sizes, trees: &[Tree], entries: &Entries) -> Result<(), Fault> {
+/// Holds the trees of a file to its list, and finds what is in them.
+pub fn file(file: &[u8], sizes: Sizes, trees: &[Tree], entries: &Entries) -> Result<Finds, Fault> {
     let kinds: Vec<u8> = trees.iter().map(|tree| tree.header.tree_type).collect();
     let [first, second] = trees else {
         return Err(format!("trees of the types {kinds:?}"));
@@ -51,15 +52,24 @@ pub fn file(file: &[u8], sizes: Sizes, trees: &[Tree], entries: &Entries) -> Res
     };
     same("types", pair.map(|tree| tree.header.tree_type), due)?;
     match entries {
-        Entries::Links(names) => by_name_and_order(&LINKS, pair, names),
-        Entries::Attributes(names) => by_name_and_order(&ATTRIBUTES, pair, names),
-        Entries::Chunks(all) => pair.iter().try_for_each(|tree| {
-            let own = all
-                .iter()
-                .filter(|chunk| chunk.kind == tree.header.tree_type);
-            chunks(file, sizes, tree, own.collect())
-        }),
+        Entries::Links(names) => named(file, &LINKS, pair, names),
+        Entries::Attributes(names) => named(file, &ATTRIBUTES, pair, names),
+        Entries::Chunks(all) => {
+            let mut finds = Finds::default();
+            for tree in pair {
+                let kind = tree.header.tree_type;
+                let own = all.iter().filter(|chunk| chunk.kind == kind);
+                chunks(file, sizes, tree, own.collect())?;
+                finds.add(find_chunks(file, tree)?);
+            }
+            Ok(finds)
+        }
     }
+}
+
+fn named(file: &[u8], layout: &Layout, pair: [&Tree; 2], names: &[Named]) -> Result<Finds, Fault> {
+    by_name_and_order(layout, pair, names)?;
+    find_names(file, layout, pair, names)
 }
 
 /// By creation order: the listed orders, ascending. By name: the hash of each name, ascending, and
@@ -89,6 +99,50 @@ fn by_name_and_order(layout: &Layout, pair: [&Tree; 2], names: &[Named]) -> Resu
         before = Some((hash, name));
     }
     Ok(())
+}
+
+/// Finds each name by its hash, and its creation order: both records have the same key. Of names
+/// with one hash the first has the record that is found.
+fn find_names(
+    file: &[u8],
+    layout: &Layout,
+    pair: [&Tree; 2],
+    names: &[Named],
+) -> Result<Finds, Fault> {
+    let by_name = Index::new(file, pair[0], layout.hash.clone())?;
+    let by_order = Index::new(file, pair[1], layout.order.clone())?;
+    let hash = |named: &Named| u64::from(nuldrafon::jenkins_lookup3(named.name.as_bytes()));
+    let mut first: HashMap<u64, &str> = HashMap::new();
+    for named in names {
+        let name = first.entry(hash(named)).or_insert(&named.name);
+        *name = (*name).min(&named.name);
+    }
+    let mut finds = Finds::default();
+    for named in names {
+        let found = [by_name.find(hash(named))?, by_order.find(named.order)?];
+        let [Some(own), Some(ordered)] = found else {
+            return Err(format!("{} is not found", named.name));
+        };
+        let equal = own[layout.keys[0].clone()] == ordered[layout.keys[1].clone()];
+        let is_first = first[&hash(named)] == named.name;
+        same("keys of the records found", equal, is_first)?;
+        finds.found += 2;
+        finds.shared += u64::from(!is_first);
+    }
+    same("two names of one hash", finds.shared > 0, true)?;
+    finds.absent = by_name.absent()? + by_order.absent()?;
+    Ok(finds)
+}
+
+/// Finds the first chunk of each row, by the row's scaled offset.
+fn find_chunks(file: &[u8], tree: &Tree) -> Result<Finds, Fault> {
+    let end = tree.record_size();
+    let rows = Index::new(file, tree, end - 16..end - 8)?;
+    Ok(Finds {
+        found: rows.keys()?,
+        absent: rows.absent()?,
+        ..Finds::default()
+    })
 }
 
 /// The listed chunks, by scaled offsets; at each address stand the chunk's two numbers.

@@ -2,7 +2,9 @@
 
 mod bytes;
 mod check;
+mod find;
 mod graft;
+mod lexists;
 mod library;
 mod list;
 mod superblock;
@@ -13,6 +15,7 @@ use std::path::{Path, PathBuf};
 use std::process::ExitCode;
 
 use bytes::{same, Fault};
+use find::Finds;
 use graft::{Written, DAMAGES};
 use library::{files_py, Folder};
 use list::{Entries, List};
@@ -27,12 +30,16 @@ const DAMAGED_NODE_SIZE: u32 = 300;
 const MOST_GROWN: u64 = 10_000;
 const GROWN_NODE_SIZES: [u32; 4] = [300, 512, 2_048, 65_536];
 
+/// The file in which lookups by name are timed.
+const TIMED: &str = "links-100000-8-8";
+
 /// A real file, read.
 struct Real {
     name: String,
     bytes: Vec<u8>,
     list: List,
     trees: Vec<Tree>,
+    finds: Finds,
 }
 
 fn main() -> ExitCode {
@@ -53,19 +60,27 @@ fn run() -> Result<(), Fault> {
         "type  records  sizes  library: node size, depth, nodes   ours: node size/depth/nodes"
     );
     let (mut grafts, mut grown, mut damages) = (0, 0, 0);
+    let mut finds = Finds::default();
     for path in listed(made.path())? {
         let mut real = Real::read(&path)?;
         let ours = folder.inner("ours")?;
-        let written = real.graft_all(&ours)?;
+        finds.add(real.finds);
+        let written = real.graft_all(&ours, &mut finds)?;
         files_py("look", &[&made, &ours])?;
         grafts += written.len();
         real.print(&written)?;
-        grown += real.grow(&folder)?;
+        grown += real.grow(&folder, &mut finds)?;
+        real.time(&path, &made)?;
         damages += real.notices(&folder, &made)?;
     }
     println!(
         "{grafts} files with our trees read by the library, {grown} changed by it and read again; \
          {damages} damages noticed"
+    );
+    println!(
+        "{} records found by their keys, {} of them those of another name with the same hash; {} \
+         keys that are not there",
+        finds.found, finds.shared, finds.absent
     );
     // A run over no files would show nothing.
     same("something done", grafts * grown * damages > 0, true)
@@ -96,17 +111,18 @@ impl Real {
         same("sizes", sizes, list.sizes)?;
         let trees = tree::trees(&bytes, sizes)?;
         let stem = path.file_stem().unwrap_or_default();
-        let real = Self {
+        let mut real = Self {
             name: stem.to_string_lossy().into_owned(),
             bytes,
             list,
             trees,
+            finds: Finds::default(),
         };
-        real.check()?;
+        real.finds = real.check()?;
         Ok(real)
     }
 
-    fn check(&self) -> Result<(), Fault> {
+    fn check(&self) -> Result<Finds, Fault> {
         check::file(
             &self.bytes,
             self.list.sizes,
@@ -115,24 +131,27 @@ impl Real {
         )
     }
 
-    /// A copy of the file for each node size, with our trees of that size.
-    fn graft_all(&self, folder: &Folder) -> Result<Vec<Vec<Written>>, Fault> {
+    /// A copy of the file for each node size, with our trees of that size, which ours reads too.
+    fn graft_all(&self, folder: &Folder, finds: &mut Finds) -> Result<Vec<Vec<Written>>, Fault> {
         let mut all = Vec::new();
         if self.unread() {
             return Ok(all);
         }
         for node_size in graft::node_sizes(self.trees[0].header.total_records) {
-            all.push(self.graft(folder, *node_size)?);
+            let (grafted, written) = self.graft(folder, *node_size)?;
+            let trees = tree::trees(&grafted, self.list.sizes)?;
+            let entries = &self.list.entries;
+            finds.add(check::file(&grafted, self.list.sizes, &trees, entries)?);
+            all.push(written);
         }
         Ok(all)
     }
 
     /// A copy of the file with our trees in nodes of this size.
-    fn graft(&self, folder: &Folder, node_size: u32) -> Result<Vec<Written>, Fault> {
-        let made = graft::graft(&self.bytes, self.list.sizes, &self.trees, node_size);
-        let (grafted, written) = made?;
-        self.save(folder, &node_size.to_string(), &grafted)?;
-        Ok(written)
+    fn graft(&self, folder: &Folder, node_size: u32) -> Result<(Vec<u8>, Vec<Written>), Fault> {
+        let made = graft::graft(&self.bytes, self.list.sizes, &self.trees, node_size)?;
+        self.save(folder, &node_size.to_string(), &made.0)?;
+        Ok(made)
     }
 
     /// Whether the library cannot read its own file.
@@ -141,7 +160,7 @@ impl Real {
     }
 
     /// Has the library change files with our trees, and reads these again. Returns how many.
-    fn grow(&self, folder: &Folder) -> Result<usize, Fault> {
+    fn grow(&self, folder: &Folder, finds: &mut Finds) -> Result<usize, Fault> {
         if self.unread() || self.trees[0].header.total_records > MOST_GROWN {
             return Ok(0);
         }
@@ -151,7 +170,7 @@ impl Real {
         }
         files_py("grow", &[&grown])?;
         for path in listed(grown.path())? {
-            Real::read(&path)?;
+            finds.add(Real::read(&path)?.finds);
         }
         Ok(GROWN_NODE_SIZES.len())
     }
@@ -188,6 +207,27 @@ impl Real {
                 ours.join(" ")
             );
         }
+        Ok(())
+    }
+
+    /// A line of how long a lookup by name takes, in the file where that is timed.
+    fn time(&self, path: &Path, made: &Folder) -> Result<(), Fault> {
+        let Entries::Links(names) = &self.list.entries else {
+            return Ok(());
+        };
+        if self.name != TIMED {
+            return Ok(());
+        }
+        let by_name = self.trees.iter().find(|tree| tree.header.tree_type == 5);
+        let header = &by_name.ok_or("no tree by name")?.header;
+        let library = fs::read_to_string(made.path().join("library")).map_err(|e| e.to_string())?;
+        let times = lexists::time(&library, path, (&self.bytes, header), names)?;
+        println!(
+            "a name among {}: H5Lexists {:.0} ns, hash and find {:.0} ns",
+            names.len(),
+            times.lexists,
+            times.find
+        );
         Ok(())
     }
 

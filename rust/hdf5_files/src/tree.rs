@@ -5,12 +5,14 @@ use nuldrafon::{Header, NodeInfo};
 use crate::bytes::{number, part, same, Fault};
 use crate::superblock::Sizes;
 
-/// A tree with the place of its header, its records end to end and the places of its nodes.
+/// A tree with the place of its header, its records end to end, and the places of its nodes and of
+/// its records.
 pub struct Tree {
     pub at: usize,
     pub header: Header,
     pub records: Vec<u8>,
     pub nodes: Vec<usize>,
+    pub places: Vec<u64>,
 }
 
 impl Tree {
@@ -42,21 +44,20 @@ fn tree(file: &[u8], at: usize, header: Header) -> Result<Tree, Fault> {
     let counts = header.collect(file, &mut records);
     let counts = counts.map_err(|error| format!("collecting, {error}"))?;
     same("records put out", counts.records, header.total_records)?;
-    let nodes = match header.total_records {
-        // The library's tree without records has no node.
-        0 => Vec::new(),
-        _ => {
-            same("leaves", counts.leaves, counts.internal_records + 1)?;
-            Walk::new(file, header)?.nodes()?
-        }
-    };
+    let mut walk = Walk::new(file, header)?;
+    // The library's tree without records has no node.
+    if header.total_records > 0 {
+        same("leaves", counts.leaves, counts.internal_records + 1)?;
+        walk.run()?;
+    }
     let read = counts.leaves + counts.internal_nodes;
-    same("nodes read", read, nodes.len() as u64)?;
+    same("nodes read", read, walk.nodes.len() as u64)?;
     Ok(Tree {
         at,
         header,
         records,
-        nodes,
+        nodes: walk.nodes,
+        places: walk.places,
     })
 }
 
@@ -67,6 +68,7 @@ struct Walk<'a> {
     header: Header,
     info: NodeInfo,
     nodes: Vec<usize>,
+    places: Vec<u64>,
 }
 
 impl<'a> Walk<'a> {
@@ -77,11 +79,12 @@ impl<'a> Walk<'a> {
             header,
             info: info.map_err(|refusal| refusal.to_string())?,
             nodes: Vec::new(),
+            places: Vec::new(),
         })
     }
 
-    /// The places of all nodes, children first.
-    fn nodes(mut self) -> Result<Vec<usize>, Fault> {
+    /// Goes over the tree, for the places of all nodes, children first, and of all records in order.
+    fn run(&mut self) -> Result<(), Fault> {
         let Header {
             root_address,
             depth,
@@ -89,8 +92,7 @@ impl<'a> Walk<'a> {
             ..
         } = self.header;
         let total = self.node(root_address, depth.into(), root_records.into())?;
-        same("records in all", total, self.header.total_records)?;
-        Ok(self.nodes)
+        same("records in all", total, self.header.total_records)
     }
 
     /// Walks a subtree, and returns how many records are in it.
@@ -100,7 +102,8 @@ impl<'a> Walk<'a> {
         if count > self.info.max_nrec[level] {
             return Err(format!("{count} records in a node of level {level}"));
         }
-        let pointers = 6 + count as usize * usize::from(geometry.record_size);
+        let record_size = u64::from(geometry.record_size);
+        let pointers = 6 + (count * record_size) as usize;
         let offset_size = usize::from(geometry.offset_size);
         let counts = usize::from(self.info.max_nrec_size);
         let totals = self.total_width(level);
@@ -108,13 +111,18 @@ impl<'a> Walk<'a> {
         let children = if level == 0 { 0 } else { count as usize + 1 };
         self.framed(bytes, level, pointers + children * width)?;
         let mut total = count;
+        let mut records = (0..count).map(|i| at + 6 + i * record_size);
+        if level == 0 {
+            self.places.extend(records.by_ref());
+        }
         for pointer in bytes[pointers..].chunks_exact(width).take(children) {
             let (address, numbers) = pointer.split_at(offset_size);
-            let (records, in_all) = numbers.split_at(counts);
-            let below = self.node(number(address), level - 1, number(records))?;
-            let due = if totals == 0 { records } else { in_all };
+            let (in_node, in_all) = numbers.split_at(counts);
+            let below = self.node(number(address), level - 1, number(in_node))?;
+            let due = if totals == 0 { in_node } else { in_all };
             same("records of a subtree", below, number(due))?;
             total += below;
+            self.places.extend(records.next());
         }
         self.nodes.push(at as usize);
         Ok(total)

@@ -1,9 +1,8 @@
 //! A tree's header, and the records of the tree.
 
-use std::error::Error;
 use std::fmt;
 
-use crate::refusal::{accepted, Refusal};
+use crate::refusal::{accepted, error_with_refusal, Refusal};
 use crate::{raw, Geometry};
 
 /// What the header of a tree says, with the offset size that it was read with.
@@ -277,14 +276,4 @@ impl fmt::Display for CollectError {
     }
 }
 
-impl Error for CollectError {
-    fn source(&self) -> Option<&(dyn Error + 'static)> {
-        Some(&self.refusal)
-    }
-}
-
-impl From<CollectError> for Refusal {
-    fn from(error: CollectError) -> Refusal {
-        error.refusal
-    }
-}
+error_with_refusal!(CollectError);

@@ -16,6 +16,7 @@
 //! | write a tree | [`WriteRequest::write_to_vec`], or [`WriteRequest::write`] into lent buffers |
 //! | read a header | [`Header::parse`] |
 //! | read all records | [`Header::collect_to_vec`], or [`Header::collect`] into a lent buffer |
+//! | find one record by a number in it | [`Header::find`] |
 //! | look at the records of one leaf | [`LeafView::new`] |
 //! | know what nodes hold at most | [`Geometry::node_info`] |
 //! | sum bytes as HDF5 does | [`jenkins_lookup3`] |
@@ -57,6 +58,8 @@
 #![deny(missing_docs)]
 #![deny(unsafe_code)]
 
+mod field;
+mod find;
 mod geometry;
 mod header;
 mod leaf_view;
@@ -65,6 +68,8 @@ pub mod raw;
 mod refusal;
 mod write_request;
 
+pub use field::Field;
+pub use find::{FindError, Found};
 pub use geometry::{Geometry, NodeInfo, Plan, LEVELS};
 pub use header::{CollectError, Collected, Counts, Header};
 pub use leaf_view::LeafView;

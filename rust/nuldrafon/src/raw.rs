@@ -47,8 +47,8 @@ macro_rules! calls {
             }
             let mut answer = [UNSET; $places];
             // SAFETY: the declaration is the C function's. Each pointer goes over with the length
-            // of its slice; all are lent for the whole call, and those that are written to are
-            // lent to it alone.
+            // of its slice, or is that of an array whose length the declaration says; all are lent
+            // for the whole call, and those that are written to are lent to it alone.
             unsafe { $symbol($($over)* &mut answer) };
             answer
         }
@@ -100,6 +100,16 @@ calls! {
     leaf_record = btree_v2_leaf_record(
         file: &[u8], address: u64, count: u16, record_size: u16, index: u64, output: &mut [u8],
     ) -> [u64; 3];
+
+    /// Finds a record by its key, the number of `key_width` bytes from `key_start` of the record
+    /// on. The header's figures are those behind the 0 of [`parse`]'s answer; one above its
+    /// field's range counts modulo 2^8, 2^32, 2^16, 2^16, 2^64, 2^16, 2^64. Answer: 0 or the
+    /// refusal's number; its two values; nodes read, refused or not; 1 where a record was found,
+    /// else 0; its place in the file, 0 where none was found. Refusals in this order: 8, 16, 17,
+    /// those of the nodes on the descent (1, 2, 4, 6).
+    find = btree_v2_find(
+        file: &[u8], header: &[u64; 7], offset_size: u8, key_start: u64, key_width: u64, key: u64,
+    ) -> [u64; 6];
 }
 
 /// The lookup3 checksum of `data`, start value 0: the one that HDF5 has for its metadata.

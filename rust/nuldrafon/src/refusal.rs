@@ -167,9 +167,31 @@ causes! {
     /// The depth is above 32.
     DepthAboveLimit(depth: u16) = 16:
         "depth {depth} is above 32";
+
+    /// The key's field has not 1 to 8 bytes, or runs past the record's end.
+    InvalidKeyField = 17:
+        "the key's field has not 1 to 8 bytes, or runs past the record's end";
 }
 
 impl Error for Refusal {}
+
+/// Makes an error of a struct that has a refusal and more, and a refusal of it alone.
+macro_rules! error_with_refusal {
+    ($name:ident) => {
+        impl std::error::Error for $name {
+            fn source(&self) -> Option<&(dyn std::error::Error + 'static)> {
+                Some(&self.refusal)
+            }
+        }
+
+        impl From<$name> for Refusal {
+            fn from(error: $name) -> Refusal {
+                error.refusal
+            }
+        }
+    };
+}
+pub(crate) use error_with_refusal;
 
 /// Nothing where the answer begins with 0, else the refusal that it tells.
 #[inline]

@@ -5,7 +5,7 @@ use std::fmt::{Debug, Display};
 use crate::compare::Held;
 use crate::model;
 
-/// A case of a call. An answer is document 01's number (0: accepted), then the figures or the
+/// A case of a call. An answer is the documents' number (0: accepted), then the figures or the
 /// values of the refusal, then zeros. It is shown where answers differ.
 pub trait Case: Display {
     /// An array of the answer's numbers.
@@ -25,6 +25,11 @@ pub trait Case: Display {
     /// those behind them stay.
     fn written(&self, _answer: &Self::Answer) -> Vec<usize> {
         Vec::new()
+    }
+
+    /// What an answer comes to beside its number, where the suite has to meet each such end.
+    fn outcome(&self, _answer: &Self::Answer) -> Option<&'static str> {
+        None
     }
 
     /// Holds an answer and the buffers after it to the Rust; none where that has no answer.

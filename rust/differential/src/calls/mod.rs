@@ -2,6 +2,7 @@
 
 mod case;
 pub mod collect;
+pub mod find;
 pub mod leaf_record;
 pub mod node_info;
 pub mod parse;
@@ -18,6 +19,8 @@ pub struct Call {
     pub name: &'static str,
     /// The numbers of the refusals that the call can give; the suite has to meet each.
     pub refusals: &'static [u64],
+    /// What else its answers can come to ([`Case::outcome`]); the suite has to meet each.
+    pub outcomes: &'static [&'static str],
     /// The families of cases of the suite.
     pub suite: &'static [Part],
     /// Families of few and large cases, a suite of their own, and the refusals that it has to meet.
@@ -69,6 +72,7 @@ pub static CALLS: &[Call] = &[
     Call {
         name: "node_info",
         refusals: &[16],
+        outcomes: &[],
         suite: &[
             part("grid-tables", node_info::on_the_grid).notices(),
             part("tables", node_info::of_any_numbers).soaks(),
@@ -80,6 +84,7 @@ pub static CALLS: &[Call] = &[
     Call {
         name: "plan",
         refusals: &[4, 7, 8, 9, 10, 11],
+        outcomes: &[],
         suite: &[
             part("grid-plans", plan::on_the_grid).notices(),
             part("plans", plan::of_any_numbers).soaks().notices(),
@@ -92,6 +97,7 @@ pub static CALLS: &[Call] = &[
     Call {
         name: "write",
         refusals: &[4, 5, 7, 8, 9, 10, 11, 12, 13, 14, 15],
+        outcomes: &[],
         suite: &[
             part("boundaries", write::at_the_boundaries)
                 .soaks()
@@ -107,6 +113,7 @@ pub static CALLS: &[Call] = &[
     Call {
         name: "parse",
         refusals: &[1, 2, 3, 4, 5, 6],
+        outcomes: &[],
         suite: &[
             part("headers", parse::as_written).soaks(),
             part("cut-headers", parse::cut_or_elsewhere).notices(),
@@ -120,6 +127,7 @@ pub static CALLS: &[Call] = &[
     Call {
         name: "collect",
         refusals: &[1, 2, 4, 6, 8, 15, 16],
+        outcomes: &[],
         suite: &[
             part("written-trees", collect::as_written).notices(),
             part("trees", collect::of_any_geometry).soaks(),
@@ -135,6 +143,7 @@ pub static CALLS: &[Call] = &[
     Call {
         name: "leaf_record",
         refusals: &[1, 2, 6, 8, 15],
+        outcomes: &[],
         suite: &[
             part("written-leaves", leaf_record::as_written).notices(),
             part("leaves", leaf_record::of_any_geometry).soaks(),
@@ -148,6 +157,26 @@ pub static CALLS: &[Call] = &[
         large: &[],
         large_refusals: &[],
         faults: case::faults::<leaf_record::Look>,
+    },
+    Call {
+        name: "find",
+        refusals: &[1, 2, 4, 6, 8, 16, 17],
+        outcomes: &["found", "not found", "empty"],
+        suite: &[
+            part("written-keys", find::as_written).notices(),
+            part("key-fields", find::at_the_limits_of_fields).notices(),
+            part("keys", find::of_any_geometry).soaks(),
+            part("cut-keys", find::cut).soaks(),
+            part("damaged-keys", find::damaged).soaks(),
+            part("made-up-keys", find::with_made_up_headers)
+                .soaks()
+                .notices(),
+            part("several-causes", find::with_several_causes).notices(),
+            part("key-graphs", find::of_random_graphs).soaks().notices(),
+        ],
+        large: &[part("large-keys", find::of_many_records).soaks()],
+        large_refusals: &[1, 6],
+        faults: case::faults::<find::Finding>,
     },
 ];
 

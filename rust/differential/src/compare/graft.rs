@@ -17,9 +17,12 @@ struct Node {
     address: usize,
 }
 
+/// What makes the records of a node, so many bytes.
+pub type Records = fn(&mut Random, usize) -> Vec<u8>;
+
 /// A file, and a tree in it: one to three nodes of each level, each pointer to one of those a level
 /// below, and now and then a pointer to another place or a wrong count. Some files are cut.
-pub fn grafted(random: &mut Random) -> (Vec<u8>, Tree) {
+pub fn grafted(records: Records, random: &mut Random) -> (Vec<u8>, Tree) {
     let node_size = NODE_SIZES[random.up_to(4) as usize];
     let record_size = 1 + random.up_to(6) as u16;
     let geometry = Geometry::new(node_size, record_size, grid::field_size(random));
@@ -31,7 +34,8 @@ pub fn grafted(random: &mut Random) -> (Vec<u8>, Tree) {
     let (nodes, length) = placed(&form, depth, random);
     let mut file = random.bytes(length);
     for node in &nodes {
-        let mut bytes = filled(&form, *node, &nodes, length, random);
+        let records = records(random, node.records * usize::from(record_size));
+        let mut bytes = filled(&form, *node, &records, &nodes, length, random);
         if random.up_to(300) == 0 {
             let at = random.up_to(bytes.len() as u64 - 1) as usize;
             bytes[at] ^= 1 << random.up_to(7);
@@ -83,11 +87,17 @@ fn placed(form: &Form, depth: u16, random: &mut Random) -> (Vec<Node>, usize) {
     (nodes, length)
 }
 
-/// The bytes of a node: any records, and pointers to nodes of the level below.
-fn filled(form: &Form, node: Node, nodes: &[Node], length: usize, random: &mut Random) -> Vec<u8> {
-    let records = random.bytes(node.records * usize::from(form.geometry.record_size));
+/// The bytes of a node: its records, and pointers to nodes of the level below.
+fn filled(
+    form: &Form,
+    node: Node,
+    records: &[u8],
+    nodes: &[Node],
+    length: usize,
+    random: &mut Random,
+) -> Vec<u8> {
     if node.level == 0 {
-        return form.leaf(&records);
+        return form.leaf(records);
     }
     let below: Vec<Node> = nodes
         .iter()
@@ -100,7 +110,7 @@ fn filled(form: &Form, node: Node, nodes: &[Node], length: usize, random: &mut R
             pointer(child, length, random)
         })
         .collect();
-    form.internal(node.level, &records, &pointers)
+    form.internal(node.level, records, &pointers)
 }
 
 /// A pointer, rarely a wrong one. What stands in a count's field above 16 bits is any.

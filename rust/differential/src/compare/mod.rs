@@ -3,6 +3,7 @@
 pub mod bytes;
 pub mod graft;
 pub mod grid;
+pub mod keyed;
 pub mod nodes;
 pub mod rust;
 pub mod sample;
@@ -94,6 +95,7 @@ impl Comparison {
         let with_rust = held_to_rust.is_some();
         held_to_rust.unwrap_or(Ok(()))?;
         self.tally.count(class, ours.as_ref()[0], with_rust);
+        self.tally.count_outcome(case.outcome(&ours));
         Ok(())
     }
 }

@@ -7,7 +7,7 @@ use super::{grid, rust, Comparison, Held};
 use crate::calls::write::Draft;
 use crate::calls::{By, Case};
 use crate::inputs::{Leaf, Tree, Writing};
-use crate::model::{header_size, plan, Geometry, Plan};
+use crate::model::{header_size, plan, Geometry, Plan, LEVEL_LIMIT};
 use crate::random::Random;
 
 /// A file with one tree, and what was written.
@@ -29,6 +29,25 @@ pub struct Sizes {
 }
 
 impl Sizes {
+    pub const fn new(
+        node_size: u32,
+        record_size: u16,
+        offset_size: u8,
+        length_size: u8,
+        record_count: u64,
+    ) -> Sizes {
+        Sizes {
+            geometry: Geometry::new(node_size, record_size, offset_size),
+            length_size,
+            record_count,
+        }
+    }
+
+    /// Records of any bytes.
+    pub fn any_records(&self, random: &mut Random) -> Vec<u8> {
+        repeated(random, self.records_length())
+    }
+
     fn header_length(&self) -> usize {
         header_size(self.geometry.offset_size, self.length_size)
     }
@@ -42,6 +61,18 @@ impl Sample {
     /// A tree of random type and records, written by the Rust where that is asked for and it is
     /// there; none where the write is refused. Header and image come in any order.
     pub fn new(by: By, sizes: Sizes, by_rust: bool, random: &mut Random) -> Option<Sample> {
+        let records = sizes.any_records(random);
+        Sample::of(by, sizes, by_rust, records, random)
+    }
+
+    /// The same of given records.
+    pub fn of(
+        by: By,
+        sizes: Sizes,
+        by_rust: bool,
+        records: Vec<u8>,
+        random: &mut Random,
+    ) -> Option<Sample> {
         let plan = plan(sizes.record_count, sizes.geometry).ok()?;
         let image_length = plan.image_size as usize;
         let [front, middle, end] = [30, 20, 20].map(|most| random.any_magnitude(most) as usize);
@@ -49,7 +80,6 @@ impl Sample {
             0 => (front, front + sizes.header_length() + middle),
             _ => (front + image_length + middle, front),
         };
-        let records = repeated(random, sizes.records_length());
         let given = Writing {
             tree_type: random.up_to(255) as u8,
             record_count: sizes.record_count,
@@ -110,6 +140,26 @@ impl Sample {
             _ => root - random.up_to((root - self.image_at as u64) / node_size) * node_size,
         }
     }
+
+    /// The header, with some of its numbers made up.
+    pub fn made_up_header(&self, random: &mut Random) -> Tree {
+        let mut tree = self.tree;
+        for _ in 0..=random.up_to(2) {
+            match random.up_to(8) {
+                0 => tree.depth = random.up_to(LEVEL_LIMIT.into()) as u16,
+                1 => tree.root_records = random.any_magnitude(u16::MAX.into()) as u16,
+                2 => tree.root_address = self.any_address(random),
+                3 => tree.geometry.node_size = random.any_magnitude(u32::MAX.into()) as u32,
+                4 => tree.geometry.record_size = random.any_magnitude(u16::MAX.into()) as u16,
+                5 => tree.geometry.offset_size = random.up_to(255) as u8,
+                6 => tree.geometry.offset_size = grid::field_size(random),
+                7 => tree.total_records = random.any_magnitude(u64::MAX),
+                _ if random.up_to(9) == 0 => tree.depth = random.up_to(u16::MAX.into()) as u16,
+                _ => tree.tree_type = random.up_to(255) as u8,
+            }
+        }
+        tree
+    }
 }
 
 /// The header and the image by the Rust or by another. The Rust is not asked where the address
@@ -135,30 +185,39 @@ pub fn for_each(
     random: &mut Random,
     mut check: impl FnMut(&mut Comparison, &mut Sample, &mut Random) -> Held,
 ) -> Held {
-    for sizes in SMALL {
-        for by_rust in [false, true] {
-            let sample = Sample::new(to.by, sizes, by_rust, random);
-            check(to, &mut sample.ok_or("a small tree was refused")?, random)?;
-        }
+    for (sizes, by_rust) in small_sizes() {
+        let sample = Sample::new(to.by, sizes, by_rust, random);
+        check(to, &mut sample.ok_or("a small tree was refused")?, random)?;
     }
     Ok(())
+}
+
+/// The sizes of the small trees, each for a tree by who is compared and for one by the Rust.
+pub fn small_sizes() -> impl Iterator<Item = (Sizes, bool)> {
+    let both = |sizes| [(sizes, false), (sizes, true)];
+    SMALL.into_iter().flat_map(both)
 }
 
 /// A tree of up to some hundred records at any geometry of the grid, by who is compared or the Rust;
 /// none where the write is refused.
 pub fn any(by: By, random: &mut Random) -> Option<Sample> {
+    let sizes = any_sizes(random);
+    Sample::new(by, sizes, random.up_to(1) == 0, random)
+}
+
+/// Sizes of up to some hundred records at any geometry of the grid.
+pub fn any_sizes(random: &mut Random) -> Sizes {
     let geometry = grid::one_of_the_grid(random);
     let mut counts = grid::boundaries(geometry);
     counts.retain(|&count| count <= MOST_RECORDS_OF_ANY);
-    let sizes = Sizes {
+    Sizes {
         geometry,
         length_size: grid::field_size(random),
         record_count: match random.up_to(1) {
             0 => random.up_to(MOST_RECORDS_OF_ANY),
             _ => counts[random.up_to(counts.len() as u64 - 1) as usize],
         },
-    };
-    Sample::new(by, sizes, random.up_to(1) == 0, random)
+    }
 }
 
 const MOST_RECORDS_OF_ANY: u64 = 600;
@@ -178,43 +237,29 @@ fn tree_of(given: &Writing, plan: &Plan) -> Tree {
 /// Small trees of every kind: empty, a leaf, a full leaf, thin and full trees of depth 1 to 4, one
 /// and two bytes for a count, all field sizes.
 const SMALL: [Sizes; 25] = [
-    small(40, 8, 8, 8, 0),
-    small(10, 1, 2, 2, 0),
-    small(40, 8, 8, 8, 1),
-    small(40, 8, 4, 2, 3),
-    small(26, 8, 8, 4, 2),
-    small(100, 1, 2, 8, 90),
-    small(1_034, 2, 8, 8, 512),
-    small(40, 8, 8, 8, 4),
-    small(40, 8, 2, 2, 4),
-    small(40, 8, 4, 8, 7),
-    small(48, 20, 8, 8, 3),
-    small(64, 3, 4, 4, 60),
-    small(128, 11, 8, 8, 50),
-    small(280, 1, 2, 4, 271),
-    small(280, 1, 4, 2, 700),
-    small(40, 8, 8, 8, 8),
-    small(40, 8, 2, 4, 15),
-    small(36, 4, 2, 2, 30),
-    small(64, 9, 4, 4, 40),
-    small(30, 2, 2, 8, 100),
-    small(40, 8, 8, 2, 16),
-    small(26, 2, 2, 2, 60),
-    small(24, 1, 2, 2, 100),
-    small(40, 8, 8, 4, 31),
-    small(40, 8, 8, 8, 33),
+    Sizes::new(40, 8, 8, 8, 0),
+    Sizes::new(10, 1, 2, 2, 0),
+    Sizes::new(40, 8, 8, 8, 1),
+    Sizes::new(40, 8, 4, 2, 3),
+    Sizes::new(26, 8, 8, 4, 2),
+    Sizes::new(100, 1, 2, 8, 90),
+    Sizes::new(1_034, 2, 8, 8, 512),
+    Sizes::new(40, 8, 8, 8, 4),
+    Sizes::new(40, 8, 2, 2, 4),
+    Sizes::new(40, 8, 4, 8, 7),
+    Sizes::new(48, 20, 8, 8, 3),
+    Sizes::new(64, 3, 4, 4, 60),
+    Sizes::new(128, 11, 8, 8, 50),
+    Sizes::new(280, 1, 2, 4, 271),
+    Sizes::new(280, 1, 4, 2, 700),
+    Sizes::new(40, 8, 8, 8, 8),
+    Sizes::new(40, 8, 2, 4, 15),
+    Sizes::new(36, 4, 2, 2, 30),
+    Sizes::new(64, 9, 4, 4, 40),
+    Sizes::new(30, 2, 2, 8, 100),
+    Sizes::new(40, 8, 8, 2, 16),
+    Sizes::new(26, 2, 2, 2, 60),
+    Sizes::new(24, 1, 2, 2, 100),
+    Sizes::new(40, 8, 8, 4, 31),
+    Sizes::new(40, 8, 8, 8, 33),
 ];
-
-const fn small(
-    node_size: u32,
-    record_size: u16,
-    offset_size: u8,
-    length_size: u8,
-    record_count: u64,
-) -> Sizes {
-    Sizes {
-        geometry: Geometry::new(node_size, record_size, offset_size),
-        length_size,
-        record_count,
-    }
-}

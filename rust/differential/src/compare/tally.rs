@@ -8,6 +8,8 @@ pub struct Tally {
     classes: Vec<(&'static str, u64)>,
     /// The cases that were answered with each number: 0 or that of a refusal.
     answers: BTreeMap<u64, u64>,
+    /// The cases by what their answers came to, where that is told.
+    outcomes: BTreeMap<&'static str, u64>,
     /// The cases that were held to the Rust too.
     rust: u64,
 }
@@ -18,6 +20,7 @@ impl Tally {
             name,
             classes: Vec::new(),
             answers: BTreeMap::new(),
+            outcomes: BTreeMap::new(),
             rust: 0,
         }
     }
@@ -30,6 +33,13 @@ impl Tally {
         }
         *self.answers.entry(number).or_default() += 1;
         self.rust += u64::from(with_rust);
+    }
+
+    /// Counts what the answer of a case came to.
+    pub fn count_outcome(&mut self, outcome: Option<&'static str>) {
+        if let Some(outcome) = outcome {
+            *self.outcomes.entry(outcome).or_default() += 1;
+        }
     }
 
     /// All cases.
@@ -46,6 +56,12 @@ impl Tally {
     pub fn missing(&self, numbers: &[u64]) -> Vec<u64> {
         let unmet = |number: &&u64| !self.answers.contains_key(number);
         numbers.iter().filter(unmet).copied().collect()
+    }
+
+    /// Those of the outcomes that never came.
+    pub fn missing_outcomes(&self, outcomes: &[&'static str]) -> Vec<&'static str> {
+        let unmet = |outcome: &&&str| !self.outcomes.contains_key(**outcome);
+        outcomes.iter().filter(unmet).copied().collect()
     }
 }
 
@@ -71,6 +87,10 @@ impl fmt::Display for Tally {
             self.rust,
             self.answers.get(&0).unwrap_or(&0),
             refused.join(", "),
-        )
+        )?;
+        for (outcome, cases) in &self.outcomes {
+            write!(to, "; {outcome} {cases}")?;
+        }
+        Ok(())
     }
 }

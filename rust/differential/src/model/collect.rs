@@ -1,11 +1,8 @@
 //! Collecting the records of a tree.
 
-use super::leaf;
-use super::numbers::get;
-use super::plan::check_offset_size;
+use super::nodes::Nodes;
 use super::refusal::{self, require, Answer};
-use super::table::{table, Geometry, Table};
-use crate::inputs::{Leaf, Tree};
+use crate::inputs::Tree;
 
 /// What every collecting tells, refused or not.
 #[derive(Debug, Clone, Copy, Default, PartialEq, Eq)]
@@ -34,16 +31,11 @@ pub fn collect(file: &[u8], tree: &Tree, output: &mut [u8]) -> Collected {
 }
 
 fn begin(file: &[u8], tree: &Tree, output: &mut [u8], counts: &mut Counts) -> Answer<()> {
-    if tree.total_records == 0 || tree.root_records == 0 {
+    let Some(nodes) = Nodes::of(file, tree)? else {
         return Ok(());
-    }
-    require(tree.geometry.record_size != 0, refusal::record_size_zero())?;
-    let geometry = tree.geometry;
+    };
     let mut walk = Walk {
-        file,
-        geometry,
-        table: table(geometry, tree.depth)?,
-        record: tree.geometry.record_size.into(),
+        nodes,
         output,
         counts,
     };
@@ -55,58 +47,24 @@ fn more(count: &mut u64) {
 }
 
 struct Walk<'a> {
-    file: &'a [u8],
-    geometry: Geometry,
-    table: Table,
-    /// The bytes of a record.
-    record: usize,
+    nodes: Nodes<'a>,
     output: &'a mut [u8],
     counts: &'a mut Counts,
 }
 
 impl Walk<'_> {
-    fn node(&mut self, depth: u16, address: u64, count: u16) -> Answer<()> {
-        match depth {
-            0 => self.leaf(address, count),
-            _ => self.internal(depth, address, count.into()),
+    fn node(&mut self, level: u16, address: u64, count: u16) -> Answer<()> {
+        let node = self.nodes.read(level, address, count)?;
+        let mut records = node.records.chunks(self.nodes.record_size());
+        if level == 0 {
+            more(&mut self.counts.leaves);
+            return records.try_for_each(|record| self.put(record));
         }
-    }
-
-    fn leaf(&mut self, address: u64, count: u16) -> Answer<()> {
-        let leaf = Leaf {
-            address,
-            count,
-            record_size: self.geometry.record_size,
-        };
-        let records = leaf::records(self.file, &leaf)?;
-        more(&mut self.counts.leaves);
-        for record in records.chunks(self.record) {
-            self.put(record)?;
-        }
-        Ok(())
-    }
-
-    /// An internal node. The figures of its later shortages are of the part from the node on.
-    fn internal(&mut self, depth: u16, address: u64, count: usize) -> Answer<()> {
-        let part = leaf::begins(self.file, address, b"BTIN")?;
-        let offset_size = self.geometry.offset_size;
-        let pointer = self.table.pointer(self.geometry, depth.into()) as usize;
-        let pointers = 6 + count * self.record;
-        for end in [pointers, pointers + (count + 1) * pointer] {
-            require(
-                end <= part.len(),
-                refusal::file_ends_early(end as u128, part.len()),
-            )?;
-        }
-        check_offset_size(offset_size)?;
         more(&mut self.counts.internals);
-        for i in 0..=count {
-            let child = &part[pointers + i * pointer..];
-            let (address, rest) = child.split_at(offset_size.into());
-            let records = get(&rest[..self.table.w as usize]) % 65_536;
-            self.node(depth - 1, get(address), records as u16)?;
-            if i < count {
-                self.put(&part[6 + i * self.record..][..self.record])?;
+        for (address, count) in node.children {
+            self.node(level - 1, address, count)?;
+            if let Some(record) = records.next() {
+                self.put(record)?;
                 more(&mut self.counts.internal_records);
             }
         }
@@ -115,12 +73,12 @@ impl Walk<'_> {
 
     fn put(&mut self, record: &[u8]) -> Answer<()> {
         let length = self.output.len();
-        let at = self.counts.records as usize * self.record;
+        let at = self.counts.records as usize * record.len();
         require(
-            at + self.record <= length,
+            at + record.len() <= length,
             refusal::output_too_short(length),
         )?;
-        self.output[at..at + self.record].copy_from_slice(record);
+        self.output[at..at + record.len()].copy_from_slice(record);
         more(&mut self.counts.records);
         Ok(())
     }

@@ -1,11 +1,13 @@
-//! A second implementation of the calls, from document 01 alone: plain before quick.
+//! A second implementation of the calls, from documents 01 and 02 alone: plain before quick.
 //!
 //! It shares no code with the wrapper or the oracle. An answer is accepted figures or a refusal.
 
 mod collect;
+mod find;
 mod header;
 mod leaf;
 mod lookup3;
+mod nodes;
 mod numbers;
 mod plan;
 mod refusal;
@@ -13,10 +15,12 @@ mod table;
 mod write;
 
 pub use collect::{collect, Collected, Counts};
+pub use find::{find, fits, key_of, list, Found, Listed};
 pub use header::parse;
 pub use leaf::leaf_record;
 pub use lookup3::lookup3;
-pub use numbers::width;
+pub use nodes::{Nodes, TestedNode};
+pub use numbers::{largest, width};
 pub use plan::{plan, Node, Plan, MOST_RECORDS};
 pub use refusal::{Answer, Refusal};
 pub use table::{table, Geometry, Table, LEVEL_LIMIT};

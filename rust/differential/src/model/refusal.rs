@@ -1,4 +1,4 @@
-//! Document 01's table of causes: each with its number and values.
+//! The causes of documents 01 and 02: each with its number and values.
 
 use super::numbers::held;
 
@@ -94,4 +94,8 @@ pub fn output_too_short(length: usize) -> Refusal {
 
 pub fn too_deep(depth: u16) -> Refusal {
     told(16, depth)
+}
+
+pub fn key_field() -> Refusal {
+    plain(17)
 }

@@ -1,12 +1,12 @@
 //! The stored list of collecting.
 
 use super::images::BEFORE;
-use super::{array, List};
+use super::{array, tree_of, List};
 use crate::calls::collect::Collecting;
 use crate::calls::By;
 use crate::compare::{Comparison, Held};
-use crate::inputs::{Tree, Writing};
-use crate::model::{self, plan, Geometry};
+use crate::inputs::Tree;
+use crate::model::Geometry;
 use crate::random::Random;
 
 pub const LIST: List = List {
@@ -43,31 +43,9 @@ impl Case {
 
 /// A tree of numbered bytes behind 3 others, without the zeros after its root.
 fn written(geometry: Geometry, record_count: u64) -> Case {
-    const FRONT: usize = 3;
-    let plan = plan(record_count, geometry).expect("the sample tree has a plan");
     let length = record_count as usize * usize::from(geometry.record_size);
     let records: Vec<u8> = (0..length).map(|i| i as u8).collect();
-    let given = Writing {
-        tree_type: 5,
-        record_count,
-        geometry,
-        length_size: 8,
-        start: FRONT as u64,
-        records: &records,
-    };
-    let mut file = vec![0xaa; FRONT + plan.image_size as usize];
-    let written = model::write(&given, &mut [0; 38], &mut file[FRONT..]);
-    written.expect("the sample tree is written");
-    let zeros = file.iter().rev().take_while(|&&byte| byte == 0).count();
-    file.truncate(file.len() - zeros);
-    let tree = Tree {
-        tree_type: 5,
-        geometry,
-        depth: plan.depth,
-        root_address: plan.root_address(given.start, geometry),
-        root_records: plan.root_records(record_count) as u16,
-        total_records: record_count,
-    };
+    let (file, tree) = tree_of(geometry, 3, &records);
     Case {
         file,
         tree,

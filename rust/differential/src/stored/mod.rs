@@ -2,12 +2,15 @@
 
 pub mod checksum;
 pub mod collecting;
+pub mod finding;
 pub mod headers;
 pub mod images;
 pub mod plans;
 
 use crate::calls::By;
 use crate::compare::{Comparison, Family, Held};
+use crate::inputs::{Tree, Writing};
+use crate::model::{self, plan, Geometry};
 
 /// A stored list of the answers of one call.
 pub struct List {
@@ -19,7 +22,13 @@ pub struct List {
     pub family: Family,
 }
 
-pub const LISTS: [List; 4] = [plans::LIST, images::LIST, headers::LIST, collecting::LIST];
+pub const LISTS: [List; 5] = [
+    plans::LIST,
+    images::LIST,
+    headers::LIST,
+    collecting::LIST,
+    finding::LIST,
+];
 
 impl List {
     /// Holds what someone gives to the stored list.
@@ -56,4 +65,33 @@ fn array<N: Copy + Into<u64>>(name: &str, kind: &str, rows: &[Vec<N>]) -> String
     }
     text.push_str("];\n");
     text
+}
+
+/// A file with the tree of these records behind so many other bytes, without the zeros after its
+/// root, and what its header says.
+fn tree_of(geometry: Geometry, front: usize, records: &[u8]) -> (Vec<u8>, Tree) {
+    let record_count = records.len() as u64 / u64::from(geometry.record_size);
+    let plan = plan(record_count, geometry).expect("the sample tree has a plan");
+    let given = Writing {
+        tree_type: 5,
+        record_count,
+        geometry,
+        length_size: 8,
+        start: front as u64,
+        records,
+    };
+    let mut file = vec![0xaa; front + plan.image_size as usize];
+    let written = model::write(&given, &mut [0; 38], &mut file[front..]);
+    written.expect("the sample tree is written");
+    let zeros = file.iter().rev().take_while(|&&byte| byte == 0).count();
+    file.truncate(file.len() - zeros);
+    let tree = Tree {
+        tree_type: given.tree_type,
+        geometry,
+        depth: plan.depth,
+        root_address: plan.root_address(given.start, geometry),
+        root_records: plan.root_records(record_count) as u16,
+        total_records: record_count,
+    };
+    (file, tree)
 }

@@ -1,17 +1,18 @@
-//! Files made to keep a reader busy or to end its stack: each collecting ends soon.
+//! Files made to keep a reader busy or to end its stack: each collecting and each find ends soon.
 
 use std::thread;
 use std::time::{Duration, Instant};
 
 use differential::calls::collect::Collecting;
+use differential::calls::find::{Finding, Search};
 use differential::calls::{typed, Case};
 use differential::compare::nodes::{Form, Pointer};
-use differential::inputs::Tree;
+use differential::inputs::{Field, Tree};
 use differential::model::{Geometry, LEVEL_LIMIT};
 use differential::report::say;
 use nuldrafon::Refusal;
 
-/// The stack that a collecting gets.
+/// The stack that a collecting or a find gets.
 const STACK: usize = 192 << 10;
 const SOON: Duration = Duration::from_secs(10);
 /// The most records of a node, for which a count has two bytes.
@@ -63,6 +64,19 @@ fn header(address: u64, records: usize, depth: u16) -> Tree {
     }
 }
 
+/// Runs on a small stack; gives how long it took, too.
+fn soon<A: Send>(name: &str, run: impl FnOnce() -> A + Send) -> (A, Duration) {
+    let begin = Instant::now();
+    let answer = thread::scope(|scope| {
+        let thread = thread::Builder::new().stack_size(STACK);
+        let thread = thread.spawn_scoped(scope, run).expect("a thread starts");
+        thread.join().expect("the call ends")
+    });
+    let taken = begin.elapsed();
+    assert!(taken < SOON, "{name} took {taken:?}");
+    (answer, taken)
+}
+
 /// Collects on a small stack, says what was read, and holds the nodes to 33 for each record and 33.
 fn collect(name: &str, file: &[u8], tree: &Tree, output_length: usize) -> [u64; 7] {
     let case = Collecting {
@@ -71,14 +85,8 @@ fn collect(name: &str, file: &[u8], tree: &Tree, output_length: usize) -> [u64; 
         output_length,
         room: 0,
     };
-    let begin = Instant::now();
-    let answer = thread::scope(|scope| {
-        let run = || case.rattle(&mut [vec![0; output_length]]);
-        let thread = thread::Builder::new().stack_size(STACK);
-        let thread = thread.spawn_scoped(scope, run).expect("a thread starts");
-        thread.join().expect("the collecting ends")
-    });
-    let taken = begin.elapsed();
+    let mut lent = [vec![0; output_length]];
+    let (answer, taken) = soon(name, || case.rattle(&mut lent));
     let [number, _, _, records, leaves, internals, _] = answer;
     let nodes = leaves + internals;
     say(&format!(
@@ -88,12 +96,31 @@ fn collect(name: &str, file: &[u8], tree: &Tree, output_length: usize) -> [u64; 
         nodes as f64 / output_length as f64,
         taken.as_millis(),
     ));
-    assert!(taken < SOON, "{name} took {taken:?}");
     assert!(
         nodes <= (records + 1) * (u64::from(LEVEL_LIMIT) + 1),
         "{name}: {nodes} nodes"
     );
     answer
+}
+
+/// Finds the least and the largest key on a small stack: the first children, and the last ones. The
+/// model gives the same.
+fn find(name: &str, file: &[u8], tree: &Tree) -> [[u64; 6]; 2] {
+    [0, 255].map(|sought| {
+        let finding = Finding {
+            search: Search::of(file, tree, Field::new(0, 1)),
+            sought,
+            collected: None,
+        };
+        let (answer, taken) = soon(name, || finding.rattle(&mut []));
+        say(&format!(
+            "hostile file, {name}: finding {sought} is answered {answer:?} in {} ms",
+            taken.as_millis(),
+        ));
+        assert_eq!(answer, finding.model(&mut []), "{name}");
+        assert!(answer[3] <= u64::from(LEVEL_LIMIT) + 1, "{name}");
+        answer
+    })
 }
 
 /// Collects from a tower into an output that is full in the end.
@@ -102,6 +129,10 @@ fn fill(name: &str, tower: &Tower, output_length: usize) -> [u64; 7] {
     let answer = collect(name, &tower.file, &tree, output_length);
     let length = output_length as u64;
     assert_eq!(answer[..4], [15, length, 0, length], "{name}");
+    let levels = u64::from(LEVEL_LIMIT) + 1;
+    for found in find(name, &tower.file, &tree) {
+        assert_eq!([found[0], found[3]], [0, levels], "{name}");
+    }
     answer
 }
 
@@ -128,6 +159,7 @@ fn chains_without_records() {
     let chains = tower(|level| if level == LEVEL_LIMIT { MOST } else { 0 });
     let tree = header(chains.address, chains.records, LEVEL_LIMIT);
     let answer = collect("65,536 chains of 32 nodes", &chains.file, &tree, MOST);
+    find("65,536 chains of 32 nodes", &chains.file, &tree);
     let children = MOST as u64 + 1;
     let internals = 31 * children + 1;
     assert_eq!(
@@ -145,20 +177,22 @@ fn node_that_is_its_own_child() {
         total: 0,
     };
     let file = form.internal(LEVEL_LIMIT, &[7], &[own; 2]);
-    let answer = collect(
-        "a node that is its own child",
-        &file,
-        &header(0, 1, LEVEL_LIMIT),
-        100,
-    );
+    let name = "a node that is its own child";
+    let tree = header(0, 1, LEVEL_LIMIT);
+    let answer = collect(name, &file, &tree, 100);
     assert_eq!(answer, [2, 0, 0, 0, 0, LEVEL_LIMIT.into(), 0]);
+    let [first, _] = find(name, &file, &tree);
+    assert_eq!(first, [2, 0, 0, LEVEL_LIMIT.into(), 0, 0]);
 }
 
 #[test]
 fn deepest_header() {
     let file = Form::new(WIDE, 0).leaf(&[7]);
-    let answer = collect("depth 65,535", &file, &header(0, 1, u16::MAX), 100);
+    let tree = header(0, 1, u16::MAX);
+    let answer = collect("depth 65,535", &file, &tree, 100);
     assert_eq!(answer, [16, u16::MAX.into(), 0, 0, 0, 0, 0]);
+    let found = find("depth 65,535", &file, &tree);
+    assert_eq!(found, [[16, u16::MAX.into(), 0, 0, 0, 0]; 2]);
 }
 
 /// What the crate makes room for ends with the file's length, whatever the file and its header say.

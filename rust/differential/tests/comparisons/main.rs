@@ -7,6 +7,7 @@ mod hostile;
 mod noticing;
 mod noticing_calls;
 mod oracle_figures;
+mod readings;
 mod stored;
 mod suites;
 mod typed;

@@ -8,7 +8,7 @@ use differential::calls::By;
 use differential::compare::sample;
 use differential::random::Random;
 use differential::report::say;
-use nuldrafon::{jenkins_lookup3, CollectError, Geometry, Header, LeafView, Refusal, WriteRequest};
+use nuldrafon::{jenkins_lookup3, Field, Geometry, Header, LeafView, Refusal, WriteRequest};
 
 const SEED: u64 = 0x0bad_5eed_0000_0003;
 const ROUNDS: usize = 200_000;
@@ -62,8 +62,9 @@ fn told(refusal: &Refusal) {
     black_box(refusal.values());
 }
 
-fn told_with_counts(error: CollectError) {
-    let refusal = Refusal::from(error);
+/// An error with more than a refusal says it too.
+fn told_with_counts<E: Error + Copy + Into<Refusal>>(error: E) {
+    let refusal = error.into();
     told(&refusal);
     let told = error.to_string();
     assert!(told.ends_with(&refusal.to_string()), "{told}");
@@ -112,6 +113,9 @@ fn reads(file: &[u8], sample: Option<Header>, random: &mut Random) {
     let mut output = vec![0; random.any_magnitude(5_000) as usize];
     let _ = header.collect(file, &mut output).map_err(told_with_counts);
     let _ = header.collect_to_vec(file).map_err(told_with_counts);
+    let key = Field::new(any(random), any(random));
+    let found = header.find(file, key, any(random));
+    let _ = found.map_err(told_with_counts);
 
     let [count, record_size] = [(); 2].map(|()| any(random) as u16);
     let address = [any(random), header.root_address][random.up_to(1) as usize];

@@ -3,9 +3,7 @@
 use super::Collecting;
 use crate::compare::graft::grafted;
 use crate::compare::sample::{self, for_each, Sample, Sizes};
-use crate::compare::{grid, same, Comparison, Held};
-use crate::inputs::Tree;
-use crate::model::{Geometry, LEVEL_LIMIT};
+use crate::compare::{same, Comparison, Held};
 use crate::random::Random;
 
 /// The room in which the trees of small files end, or are not given to the Rust.
@@ -90,7 +88,7 @@ pub fn damaged(to: &mut Comparison, random: &mut Random) -> Held {
 pub fn with_made_up_headers(to: &mut Comparison, random: &mut Random) -> Held {
     for_each(to, random, |to, sample, random| {
         for _ in 0..HEADERS {
-            let tree = &made_up(sample, random);
+            let tree = &sample.made_up_header(random);
             let output = random.any_magnitude(2 * ROOM as u64) as usize;
             let case = of(sample, output);
             to.hold("made-up headers", &Collecting { tree, ..case })?;
@@ -99,30 +97,10 @@ pub fn with_made_up_headers(to: &mut Comparison, random: &mut Random) -> Held {
     })
 }
 
-/// A header that differs in some of its numbers.
-fn made_up(sample: &Sample, random: &mut Random) -> Tree {
-    let mut tree = sample.tree;
-    for _ in 0..=random.up_to(2) {
-        match random.up_to(8) {
-            0 => tree.depth = random.up_to(LEVEL_LIMIT.into()) as u16,
-            1 => tree.root_records = random.any_magnitude(u16::MAX.into()) as u16,
-            2 => tree.root_address = sample.any_address(random),
-            3 => tree.geometry.node_size = random.any_magnitude(u32::MAX.into()) as u32,
-            4 => tree.geometry.record_size = random.any_magnitude(u16::MAX.into()) as u16,
-            5 => tree.geometry.offset_size = random.up_to(255) as u8,
-            6 => tree.geometry.offset_size = grid::field_size(random),
-            7 => tree.total_records = random.any_magnitude(u64::MAX),
-            _ if random.up_to(9) == 0 => tree.depth = random.up_to(u16::MAX.into()) as u16,
-            _ => tree.tree_type = random.up_to(255) as u8,
-        }
-    }
-    tree
-}
-
 /// Nodes that point at one another at random, deep ones and shared ones among them.
 pub fn of_random_graphs(to: &mut Comparison, random: &mut Random) -> Held {
     for _ in 0..GRAPHS {
-        let (file, tree) = grafted(random);
+        let (file, tree) = grafted(Random::bytes, random);
         let output = match random.up_to(3) {
             0 => random.any_magnitude(ROOM as u64) as usize,
             _ => 4_000,
@@ -140,22 +118,14 @@ pub fn of_random_graphs(to: &mut Comparison, random: &mut Random) -> Held {
 
 /// Trees of up to millions of records, of depth 1 to 4, and how often each is damaged or cut.
 const LARGE: [(Sizes, usize); 7] = [
-    (large(65_536, 24, 8, 5_500_000), 1),
-    (large(2_048, 8, 8, 4_000_000), 2),
-    (large(4_096, 8, 8, 2_000_000), 3),
-    (large(512, 11, 8, 608_349), 8),
-    (large(512, 11, 4, 1_000_000), 4),
-    (large(65_536, 24, 4, 200_000), 20),
-    (large(100, 5, 4, 200_000), 20),
+    (Sizes::new(65_536, 24, 8, 8, 5_500_000), 1),
+    (Sizes::new(2_048, 8, 8, 8, 4_000_000), 2),
+    (Sizes::new(4_096, 8, 8, 8, 2_000_000), 3),
+    (Sizes::new(512, 11, 8, 8, 608_349), 8),
+    (Sizes::new(512, 11, 4, 8, 1_000_000), 4),
+    (Sizes::new(65_536, 24, 4, 8, 200_000), 20),
+    (Sizes::new(100, 5, 4, 8, 200_000), 20),
 ];
-
-const fn large(node_size: u32, record_size: u16, offset_size: u8, record_count: u64) -> Sizes {
-    Sizes {
-        geometry: Geometry::new(node_size, record_size, offset_size),
-        length_size: 8,
-        record_count,
-    }
-}
 
 /// Large files: whole, into a short output, cut anywhere, and with a bit or a byte turned anywhere.
 pub fn of_many_records(to: &mut Comparison, random: &mut Random) -> Held {
