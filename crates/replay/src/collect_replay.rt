@@ -22,28 +22,12 @@ fn numbers(collected: Collected) -> [u64; 7]
     numbers
 }
 
-// The header of a row.
-fn header(list: &[u64; 459], row: usize) -> BTreeV2Header
-    requires { ⌜ row < 27 ⌝ }
-{
-    let at = 17 * row;
-    let geometry = rows::geometry(list[at + 2], list[at + 3], list[at + 8]);
-    BTreeV2Header {
-        tree_type: rows::byte(list[at + 1]),
-        geometry,
-        depth: rows::number16(list[at + 4]),
-        root_node_address: list[at + 5],
-        num_records_in_root: rows::number16(list[at + 6]),
-        total_records: list[at + 7],
-    }
-}
-
 // Whether collecting the tree of a row from this file has its seven numbers and leaves the bytes that are due in the output.
 fn leaves(list: &[u64; 459], row: usize, file: &[u8], output: &mut [u8], due: &[u8]) -> bool
     requires { ⌜ row < 27 ⌝ }
 {
     let at = 17 * row;
-    let collected = collect::collect_btree_v2_records(file, header(list, row), output);
+    let collected = collect::collect_btree_v2_records(file, rows::header(list, at + 1), output);
     let found = numbers(collected);
     if !rows::stand_at(list, at + 10, &found) {
         return false;

@@ -6,6 +6,8 @@ mod checksum_answers;
 mod checksum_replay;
 mod collect_answers;
 mod collect_replay;
+mod find_answers;
+mod find_replay;
 mod header_answers;
 mod header_replay;
 mod image_answers;
@@ -24,4 +26,5 @@ fn main() {
     header_replay::stored().print(b"header, stored answers");
     collect_replay::stored().print(b"collect, stored answers");
     collect_replay::ends().print(b"collect, ends of a leaf");
+    find_replay::stored().print(b"find, stored answers");
 }

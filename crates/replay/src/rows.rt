@@ -3,6 +3,7 @@ ghost use mathlib.Core.Path.{_≡_};
 ghost use mathlib.Core.Bool.{true};
 ghost use Prim.Native.Nat.{ℕ, _+_, _%_, _≤_, _<_};
 ghost use lib.ListN.{length, getD};
+use btree_v2_header::BTreeV2Header;
 use node_info::Geometry;
 use plan::PlanAnswer;
 
@@ -36,6 +37,21 @@ pub(crate) fn geometry(node_size: u64, record_size: u64, offset_size: u64) -> Ge
         node_size: number32(node_size),
         record_size: number16(record_size),
         offset_size: byte(offset_size),
+    }
+}
+
+// Stored numbers from `at` on as a header: tree type, node size, record size, depth, root address, root records, records in all, offset size.
+pub(crate) fn header(list: &[u64], at: usize) -> BTreeV2Header
+    requires { ⌜ at + 8 ≤ length (now list) ⌝ }
+{
+    let geometry = geometry(list[at + 1], list[at + 2], list[at + 7]);
+    BTreeV2Header {
+        tree_type: byte(list[at]),
+        geometry,
+        depth: number16(list[at + 3]),
+        root_node_address: list[at + 4],
+        num_records_in_root: number16(list[at + 5]),
+        total_records: list[at + 6],
     }
 }
 
