@@ -1,7 +1,7 @@
 //! Finding: the families of cases.
 
 use super::Search;
-use crate::compare::graft::grafted;
+use crate::compare::graft::{grafted, Records};
 use crate::compare::keyed::{self, any_field, around, limits, Order, ORDERS};
 use crate::compare::sample::{any_sizes, small_sizes, Sample, Sizes};
 use crate::compare::{Comparison, Held};
@@ -307,14 +307,16 @@ fn each(trees: &[Tree], changes: &[u64], change: fn(&mut Tree, u64)) -> Vec<Tree
     changed.collect()
 }
 
-/// Nodes that point at one another at random, deep ones and shared ones among them, with few keys.
+/// Nodes that point at one another at random, deep ones and shared ones among them, with any keys,
+/// few keys or one.
 pub fn of_random_graphs(to: &mut Comparison, random: &mut Random) -> Held {
-    let few = |random: &mut Random, length| {
+    let few: Records = |random, length| {
         let bytes = random.bytes(length).into_iter();
         bytes.map(|byte| byte % 3).collect()
     };
+    let one: Records = |_, length| vec![1; length];
     for turn in 0..GRAPHS {
-        let records = if turn % 3 == 0 { Random::bytes } else { few };
+        let records = [Random::bytes, few, few, one][turn % 4];
         let (file, tree) = grafted(records, random);
         let key = any_field(tree.geometry.record_size, random);
         let keys = [(); 3].map(|()| any_key(&file, key, random));

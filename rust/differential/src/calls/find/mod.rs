@@ -232,21 +232,15 @@ impl Comparison {
         };
         let lent = &mut [vec![0; collecting.output_length]];
         let answer = self.by.answer(&collecting, lent);
-        let [number, first, second, _, leaves, internals, _] = answer;
-        let refused = [number, first, second];
-        if number == 15 {
+        if answer[0] == 15 {
             return Ok(Collected {
                 due: Due::Open,
                 by_rust: false,
             });
         }
         let case = || format!("a list of {collecting}");
-        same(
-            array(listed.answer.map(|()| [])),
-            refused,
-            "collecting",
-            case,
-        )?;
+        let told: [u64; 3] = array(listed.answer.map(|()| []));
+        same(&told[..], &answer[..3], "collecting", case)?;
         let bytes: Vec<&[u8]> = listed.records.iter().map(|(_, record)| *record).collect();
         same_bytes(&bytes.concat(), &lent[0], "the collected records", case)?;
         let held_to_rust = match oracle::AVAILABLE {
@@ -255,37 +249,46 @@ impl Comparison {
         };
         let by_rust = held_to_rust.is_some();
         held_to_rust.unwrap_or(Ok(()))?;
-
-        let nodes = leaves + internals;
-        let due = if number != 0 && nodes > 0 {
-            Due::Open
-        } else if nodes == 0 && number == 0 {
-            Due::Listed {
-                records: Vec::new(),
-                nodes,
-            }
-        } else if !model::fits(search.key, size) {
-            Due::Open
-        } else if number != 0 {
-            Due::Refused(refused)
-        } else {
-            of_records(&lent[0], &listed, tree, search.key)
-        };
-        Ok(Collected { due, by_rust })
+        let places = listed.records.iter().map(|(place, _)| *place);
+        Ok(Collected {
+            due: Due::of(&answer, &lent[0], places, search),
+            by_rust,
+        })
     }
 }
 
-/// What the collected records say, where they never fall in key. The places are the list's.
-fn of_records(collected: &[u8], listed: &model::Listed, tree: &Tree, key: Field) -> Due {
-    let records = collected.chunks(tree.geometry.record_size.into());
-    let keys = records.map(|record| model::key_of(record, key));
-    let places = listed.records.iter().map(|(place, _)| *place);
-    let records: Vec<(u64, u64)> = keys.zip(places).collect();
-    match records.is_sorted_by_key(|(key, _)| *key) {
-        true => Due::Listed {
-            records,
-            nodes: u64::from(tree.depth) + 1,
-        },
-        false => Due::Open,
+impl Due {
+    /// What the numbers of a collecting say, its records and their places.
+    fn of(
+        answer: &[u64; 7],
+        collected: &[u8],
+        places: impl Iterator<Item = u64>,
+        search: &Search,
+    ) -> Due {
+        let (tree, key) = (search.tree(), search.key);
+        let [number, first, second, _, leaves, internals, _] = *answer;
+        let size = usize::from(tree.geometry.record_size);
+        match (number, leaves + internals) {
+            (0, 0) => Due::Listed {
+                records: Vec::new(),
+                nodes: 0,
+            },
+            _ if !model::fits(key, size) => Due::Open,
+            (0, _) => {
+                let keys = collected
+                    .chunks(size)
+                    .map(|record| model::key_of(record, key));
+                let records: Vec<(u64, u64)> = keys.zip(places).collect();
+                match records.is_sorted_by_key(|(key, _)| *key) {
+                    true => Due::Listed {
+                        records,
+                        nodes: u64::from(tree.depth) + 1,
+                    },
+                    false => Due::Open,
+                }
+            }
+            (_, 0) => Due::Refused([number, first, second]),
+            _ => Due::Open,
+        }
     }
 }
