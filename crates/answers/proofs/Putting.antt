@@ -1,7 +1,7 @@
 -- What stands in the caller's array, in the forms in which the functions' proofs have it.
-use mathlib.Core.Path.{_≡_}
+use mathlib.Core.Path.{_≡_, refl}
 use mathlib.Core.List.{List, [], _∷_}
-use Prim.Native.Nat.{ℕ}
+use Prim.Native.Nat.{ℕ, suc, _+_}
 use lib.ListN.{length, length-append}
 use Rattle.refusal.specs.declared.Refusal.{Refusal}
 use Rattle.refusal.specs.Answer.{refusalOf, verdictOf, cells}
@@ -23,7 +23,8 @@ use Rattle.btree_v2_collect.specs.Answers.{collectedCells}
 use Rattle.btree_v2_find.specs.declared.Found.{Found}
 use Rattle.btree_v2_find.specs.declared.Place.{Place}
 use Rattle.btree_v2_find.specs.declared.Place.the-variants.{Nowhere, At}
-use Rattle.btree_v2_find.specs.Answers.{foundCells}
+use Rattle.btree_v2_find.specs.Find.{placeCells}
+use Rattle.btree_v2_find.specs.Answers.{placeOf, foundCells}
 
 -- The plan's figures, or its refusal.
 pub plan-put : {p : PlanAnswer} {q : BTreeV2Plan} → p ≡ plan.Planned q
@@ -69,3 +70,10 @@ module _ (r : Found) {n x y : ℕ} (code : n ∷ x ∷ y ∷ [] ≡ cells 3 (ver
 
   pub place-put : {p : ℕ} → r .place ≡ At p → n ∷ x ∷ y ∷ r .nodes ∷ 1 ∷ p ∷ [] ≡ foundCells r
   place-put e = rw (← code, e)
+
+pub found-length : (r : Found) {z : List ℕ} → z ≡ foundCells r → length z ≡ 6
+found-length r e = simp (e, length-append, length-cells) (by (r .place))
+  where
+    by : (p : Place) → 3 + suc (length (placeCells (placeOf p))) ≡ 6
+    by Nowhere = refl
+    by (At p) = refl

@@ -10,7 +10,7 @@ use plan::PlanAnswer;
 // Every byte of a lent output before the call.
 pub(crate) const MARK: u8 = 238;
 
-// A stored number as a byte, and as a number of 16 and of 32 bits. None of these three changes a number that is in the lists.
+// A stored number as a byte, and as a number of 16 and of 32 bits; of a number above that, as the C functions cut it.
 pub(crate) fn byte(number: u64) -> u8
     ensures { λ r. ⌜ r ≡ number % 256 ⌝ }
 {
