@@ -2,6 +2,7 @@
 use mathlib.Core.Path.{_≡_, refl, sym, ap, _∙_}
 use mathlib.Core.List.{List, []}
 use Prim.Native.Nat.{ℕ, zero, suc, _+_, _-_, _*_, _≤_}
+use native.Mathlib.Nat.{add-zero}
 use native.Mathlib.Omega.{arith}
 use lib.ListN.{length}
 use Rattle.numbers.specs.Places.{stored}
@@ -9,7 +10,7 @@ use Rattle.refusal.specs.Answer.{Answer, accepted, refused}
 use Rattle.plan.specs.Tree.{Kids, Tree, sumKids, between, count, size}
 use Rattle.node_info.specs.declared.Geometry.{Geometry}
 use Rattle.btree_v2_collect.specs.Walk.{Counts, Run, fine, stopped, andThen, ifPassed, oneRecord, oneLeaf, oneInternal, oneInternalRecord, Tests, putRecord, putRecords, leafRun, ownRecordRun, nodeRun, pointerTo}
-use Rattle.btree_v2_collect.specs.InFile.{atChild, kidsAt, treeAt, treeBytes, ChildrenSound, Sound}
+use Rattle.btree_v2_collect.specs.InFile.{atChild, kidsAt, treeAt, treeBytes, ChildSound, ChildrenSound, Sound}
 use Rattle.btree_v2_collect.proofs.Fronts.{node-fronted}
 use Rattle.btree_v2_collect.proofs.Outcomes.{put-cases}
 use Rattle.btree_v2_collect.proofs.Puts.{sum}
@@ -27,6 +28,15 @@ module _ (file : List ℕ) (g : Geometry) where
   unfolding treeAt count
   count-tree zero a n = refl
   count-tree (suc d) a n = between-kids d a n (treeAt file g d) n 0
+
+-- Every child of a sound node is sound.
+module _ (file : List ℕ) (g : Geometry) (tests : Tests) (d a n : ℕ) where
+  pub child-sound : (m i : ℕ) → ChildrenSound file g tests d a n (Sound file g tests d) (kidsAt file g d a n (treeAt file g d) m i) i
+      → (k : ℕ) → k ≤ m → ChildSound file g tests d a n (Sound file g tests d) (atChild file g (treeAt file g d) d a n (i + k)) (i + k)
+  unfolding kidsAt
+  child-sound zero i h k l = let e : i + k ≡ i = omega arith in rw e h
+  child-sound (suc m) i h zero l = rw add-zero (h .0)
+  child-sound (suc m) i h (suc k) l = let e : i + suc k ≡ i + 1 + k = omega arith in rw e (child-sound m (i + 1) (h .1) k (omega arith))
 
 -- A test and a step after it, and two steps, that are fine: the test passed, and the first step was fine.
 record Passed (x : Answer) (r : Run) (c : Counts) (o : List ℕ) : Type 0 where

@@ -11,4 +11,5 @@ pub mod Puts
 pub mod Sound
 pub mod Balance
 pub mod InFile
+pub mod Tested
 pub mod Places

@@ -5,8 +5,8 @@ use mathlib.Core.Bool.{not}
 use mathlib.Core.List.{List, [], _∷_}
 use Prim.Native.Nat.{ℕ, _+_, _*_, _≤_, _<_}
 use lib.ListN.{length, getD, take}
+use Rattle.numbers.specs.Numbers.{part}
 use Rattle.refusal.specs.Answer.{accepted, orElse}
-use Rattle.node_info.specs.declared.Geometry.{Geometry}
 use Rattle.field.specs.declared.Field.{Field}
 use Rattle.field.specs.Field.{numberAt}
 use Rattle.btree_v2_header.specs.declared.BTreeV2Header.{BTreeV2Header}
@@ -39,12 +39,22 @@ placesOf file h =
     orElse (not (noRecords (h .«total_records») (h .«num_records_in_root»))) []
     (placesAt file (h .geometry) (h .depth) (h .«root_node_address») (h .«num_records_in_root»))
 
+-- The size of a tree's records, and finding's answer: a place, or none.
+abbrev pub recordSize : BTreeV2Header → ℕ
+recordSize h = h .geometry .«record_size»
+
+abbrev pub answered : List ℕ → BTreeV2Header → Field → ℕ → List ℕ
+answered file h f x = placeFound file f x (descended file h f x)
+
 -- What finding the key x answers where collecting has put n records out to the front of o: these are the records at the tree's places, one
--- for each; the answer is the place of the first with the key, and none exactly where none has it.
+-- for each, record i the one at place i; the answer is the place of the first with the key, and none exactly where none has it. One of the
+-- two is the case.
 pub record FindsFirst (file : List ℕ) (h : BTreeV2Header) (f : Field) (x : ℕ) (o : List ℕ) (n : ℕ) : Type 0 where
   pub many : length (placesOf file h) ≡ n
-  pub bytes : take (n * h .geometry .«record_size») o ≡ recordsAt file (h .geometry) (placesOf file h)
+  pub bytes : take (n * recordSize h) o ≡ recordsAt file (h .geometry) (placesOf file h)
+  pub each : (i : ℕ) → i < n → part o (i * recordSize h) (recordSize h) ≡ part file (getD (placesOf file h) i 0) (recordSize h)
   pub accepts : descended file h f x .ends ≡ accepted []
-  pub first : (i : ℕ) → First o (h .geometry .«record_size») f n x i → placeFound file f x (descended file h f x) ≡ getD (placesOf file h) i 0 ∷ []
-  pub none : None o (h .geometry .«record_size») f n x → placeFound file f x (descended file h f x) ≡ []
-  pub either : ((i : ℕ) × First o (h .geometry .«record_size») f n x i) ⊎ None o (h .geometry .«record_size») f n x
+  pub first : (i : ℕ) → First o (recordSize h) f n x i → answered file h f x ≡ getD (placesOf file h) i 0 ∷ []
+  pub none : None o (recordSize h) f n x → answered file h f x ≡ []
+  pub only : answered file h f x ≡ [] → None o (recordSize h) f n x
+  pub either : ((i : ℕ) × First o (recordSize h) f n x i) ⊎ None o (recordSize h) f n x

@@ -5,6 +5,7 @@ use mathlib.Core.List.{List, [], _∷_}
 use Prim.Native.Nat.{ℕ, _+_, _-_, _*_, _%_, _^_, _≤_, _<_, min}
 use native.Mathlib.Nat.{mul-le-mul, min-eq-left}
 use native.Mathlib.Omega.{arith}
+use lib.Dec.{leb}
 use lib.ListN.{length, length-take, length-drop}
 use mir.Syntax.{w64}
 use mir.Val.{Fits}
@@ -19,6 +20,7 @@ use Rattle.node_info.specs.Capacity.{childPointerSize}
 use Rattle.btree_v2_internal.specs.Internal.{pointerPlace, childAddress, childRecords, internalBody, internalTest}
 use Rattle.read_checks.specs.Tests.{needs, frontTest}
 use Rattle.read_checks.proofs.Passing.{passed, passed-both, there, front-there}
+use Rattle.read_checks.proofs.Plain.{Plain, accepts, refuses, plain-or, plain-on, front-plain}
 use Rattle.refusal.specs.declared.Verdict.{Verdict}
 use Rattle.refusal.specs.declared.Verdict.the-variants.{Accepted, Refused}
 use Rattle.read_checks.proofs.Checks.{bytes-there, bytes-missing, first-refuses, first-accepts}
@@ -37,6 +39,15 @@ module _ (file : List ℕ) (rs ow w a n : ℕ) where
       let records = there (6 + n * rs) (length file - a) [] _ (both .2) in
       let pointers = there (6 + n * rs + (n + 1) * w) (length file - a) [] _ (records .1) in
       (front-there file internalSignature a _ (both .1), records .0, passed (fieldSize ow) 4 (ow ∷ []) [] _ (pointers .1) .0)
+
+  -- How its tests answer.
+  pub internal-plain : Plain (internalTest file rs ow w a n)
+  unfolding internalTest internalBody
+  internal-plain =
+      plain-on (frontTest file internalSignature a) (front-plain file internalSignature a)
+      (plain-or (leb (recordsEnd rs n) (length file - a)) (refuses 1 (omega arith))
+      (plain-or (leb (recordsEnd rs n + (n + 1) * w) (length file - a)) (refuses 1 (omega arith))
+      (plain-or (fieldSize ow) (refuses 4 (omega arith)) accepts)))
 
 -- Pointers of w bytes, at most one more than a node may have records; and those before pointer i, with the node's records.
 module _ (w : ℕ) (narrow : w < 1024) where

@@ -1,5 +1,5 @@
--- Laws of a number field: what its test says, and its number read at a place that is saturated.
-use mathlib.Core.Path.{_≡_, refl, sym}
+-- Laws of a number field: what its test says, its number read at a place that is saturated, and in records with the same bytes.
+use mathlib.Core.Path.{_≡_, refl, sym, ap, _∙_}
 use mathlib.Core.Bool.{Bool, true, false, _&&_, true≢false}
 use mathlib.Core.List.{List}
 use Prim.Native.Nat.{ℕ, _+_, _^_, _≤_, _<_, min}
@@ -8,8 +8,9 @@ use native.Mathlib.Nat.{min-eq-left}
 use lib.Dec.{leb}
 use lib.ListN.{length}
 use borrow.Author.Tests.{leb-true, leb-false, le-leb, lt-leb}
-use Rattle.numbers.specs.Numbers.{num, saturated}
+use Rattle.numbers.specs.Numbers.{unle, part, num, saturated}
 use Rattle.numbers.proofs.Copying.{num-saturated}
+use Rattle.numbers.proofs.Lists.{part-part}
 use Rattle.field.specs.declared.Field.{Field}
 use Rattle.field.specs.Field.{numberField, numberAt}
 
@@ -55,3 +56,9 @@ number-read bytes f p at e small x h = rw (h, e, num-saturated _ _ _ small)
 pub number-is : (bytes : List ℕ) (f : Field) (p : ℕ) → f .width ≤ 8 → num bytes (p + f .start) (min (f .width) 8) ≡ numberAt bytes f p
 unfolding numberAt
 number-is bytes f p few = rw (min-eq-left few)
+
+-- Records with the same bytes have the same number.
+pub number-same : (l m : List ℕ) (f : Field) (rs p q : ℕ) → f .start + f .width ≤ rs → part l p rs ≡ part m q rs → numberAt l f p ≡ numberAt m f q
+unfolding numberAt num
+number-same l m f rs p q inside e =
+    ap unle (sym (part-part l p rs (f .start) (f .width) inside) ∙ ap (λ b. part b (f .start) (f .width)) e ∙ part-part m q rs (f .start) (f .width) inside)

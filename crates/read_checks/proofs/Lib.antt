@@ -2,5 +2,6 @@
 pub mod Checks
 pub mod Nodes
 pub mod Passing
+pub mod Plain
 pub mod Outcomes
 pub mod Root

@@ -1,0 +1,150 @@
+-- Where collecting accepts and the records that it put out never fall in key, finding answers the first with the key: document 02, "One".
+use mathlib.Core.Path.{_≡_, refl, sym, _∙_}
+use mathlib.Core.Logic.{_⊎_, inl, inr, ⊎-elim}
+use mathlib.Core.Bool.{Bool, true, false}
+use mathlib.Core.List.{List, [], _∷_, cons≢nil}
+use Prim.Native.Nat.{ℕ, zero, suc, _+_, _≤_, _<_, zero-le}
+use native.Mathlib.Nat.{zero-mul}
+use native.Mathlib.Omega.{arith}
+use lib.Dec.{eqb}
+use lib.ListN.{getD}
+use borrow.Author.Tests.{eqb-true, eqb-false}
+use Rattle.numbers.proofs.Numbers.{lt-or-le}
+use Rattle.refusal.specs.Answer.{Answer, accepted, refused}
+use Rattle.node_info.specs.declared.Geometry.{Geometry}
+use Rattle.field.specs.declared.Field.{Field}
+use Rattle.field.specs.Field.{numberField, numberAt}
+use Rattle.field.proofs.Fields.{field-fits, number-same}
+use Rattle.read_checks.specs.Tests.{noRecords, rootTest}
+use Rattle.btree_v2_header.specs.declared.BTreeV2Header.{BTreeV2Header}
+use Rattle.btree_v2_collect.specs.Walk.{Counts, Run, fine, ifPassed, noCounts}
+use Rattle.btree_v2_collect.specs.InFile.{placesAt, recordsAt}
+use Rattle.btree_v2_collect.specs.Collect.{collectTests, collected}
+use Rattle.btree_v2_collect.proofs.InFile.{walk-done}
+use Rattle.btree_v2_collect.proofs.Outcomes.{collected-empty, collected-root, collected-fine}
+use Rattle.btree_v2_collect.proofs.Places.{PutOut, put-out, put-each}
+use Rattle.btree_v2_collect.proofs.Tested.{collecting-there}
+use Rattle.btree_v2_find.specs.Find.{Descent, onPassed, lastWith, firstWith, descent, keyTest, descended, placeFound}
+use Rattle.btree_v2_find.specs.Sorted.{keyOf, NeverFall, First, None, placesOf, recordSize, answered, FindsFirst}
+use Rattle.btree_v2_find.proofs.Calls.{descended-empty, descended-some}
+use Rattle.btree_v2_find.proofs.Keys.{all-from, first-is, first-none, rising-from}
+use Rattle.btree_v2_find.proofs.Nodes.{descends}
+
+-- Some record is the first with the key, or none has it.
+module _ (o : List ℕ) (rs : ℕ) (f : Field) (x : ℕ) where
+  first-or-none : (n : ℕ) → ((i : ℕ) × First o rs f n x i) ⊎ None o rs f n x
+  first-or-none zero = inr (λ i l e. omega arith)
+  first-or-none (suc n) =
+      ⊎-elim
+      (λ (t : (i : ℕ) × First o rs f n x i). inl (t .0, record { among = omega (arith, t .1 .among); has = t .1 .has; before = t .1 .before }))
+      (λ (none : None o rs f n x). by none (eqb (keyOf o rs f n) x) refl)
+      (first-or-none n)
+    where
+      by : None o rs f n x → (t : Bool) → eqb (keyOf o rs f n) x ≡ t → ((i : ℕ) × First o rs f (suc n) x i) ⊎ None o rs f (suc n) x
+      by none true e = inl (n, record { among = omega arith; has = eqb-true _ _ e; before = none })
+      by none false e =
+          inr (λ i l is.
+            ⊎-elim (λ (k : i < n). none i k is) (λ (k : n ≤ i). let same : i ≡ n = omega arith in eqb-false _ _ e (rw same at is)) (lt-or-le i n))
+
+module _ (file : List ℕ) (h : BTreeV2Header) (f : Field) (x : ℕ) where
+  abbrev g : Geometry
+  g = h .geometry
+
+  abbrev key : ℕ → ℕ
+  key = numberAt file f
+
+  abbrev rs : ℕ
+  rs = recordSize h
+
+  abbrev places : List ℕ
+  places = placesOf file h
+
+  -- The n records put out have the keys that they have in the file.
+  abbrev KeysSame : List ℕ → ℕ → Type 0
+  KeysSame o n = (i : ℕ) → i < n → keyOf o rs f i ≡ key (getD places i 0)
+
+  keys-same : (o : List ℕ) (n : ℕ) → numberField f rs ≡ true → PutOut file g places o n → KeysSame o n
+  keys-same o n field put i l =
+      number-same o file f rs _ _ (field-fits f rs field .inside) (put-each file g places o n put i l)
+
+  -- What is shown of each tree: its records are put out, with the keys that they have in the file, and finding answers the first place
+  -- with the key.
+  record Answers (o : List ℕ) (n : ℕ) : Type 0 where
+    put : PutOut file g places o n
+    same : KeysSame o n
+    accepts : descended file h f x .ends ≡ accepted []
+    place : answered file h f x ≡ firstWith key x places
+
+  by-number : (o : List ℕ) (n : ℕ) → Answers o n → FindsFirst file h f x o n
+  by-number o n a =
+      let many = a .put .many in
+      let either = first-or-none o rs f x n in
+      let first : (i : ℕ) → First o rs f n x i → answered file h f x ≡ getD places i 0 ∷ [] = λ i t.
+          let among = t .among in
+          a .place ∙ first-is key x places i (omega arith) (sym (a .same i among) ∙ t .has) (λ j l e. t .before j l (a .same j (omega arith) ∙ e)) in
+      record {
+        many = many;
+        bytes = a .put .bytes;
+        each = put-each file g places o n (a .put);
+        accepts = a .accepts;
+        first = first;
+        none = λ t. a .place ∙ first-none key x places (all-from _ places (λ i l e. t i (omega arith) (a .same i (omega arith) ∙ e)));
+        only = λ e. ⊎-elim (λ (t : (i : ℕ) × First o rs f n x i). absurd (cons≢nil (sym (first (t .0) (t .1)) ∙ e))) (λ none. none) either;
+        either = either;
+      }
+
+  -- A tree without records.
+  module _ (empty : noRecords (h .«total_records») (h .«num_records_in_root») ≡ true) where
+    answers-none : (o : List ℕ) → Answers o 0
+    unfolding placesOf placeFound lastWith firstWith recordsAt
+    answers-none o =
+        record {
+          put = rw empty (record { many = refl; bytes = rw zero-mul; whole = rw zero-mul });
+          same = λ i l. absurd (omega arith);
+          accepts = rw (descended-empty file h f x empty);
+          place = rw (descended-empty file h f x empty, empty);
+        }
+
+  -- One with some, which collecting accepts.
+  module _ (some : noRecords (h .«total_records») (h .«num_records_in_root») ≡ false) (field : numberField f rs ≡ true)
+      (out o : List ℕ) (c : Counts) (e : collected file h out ≡ fine c o) where
+    abbrev down : Descent
+    down = descent file g f x (collectTests file g) (h .depth) (h .«root_node_address») (h .«num_records_in_root»)
+
+    places-are : places ≡ placesAt file g (h .depth) (h .«root_node_address») (h .«num_records_in_root»)
+    unfolding placesOf
+    places-are = rw some
+
+    descended-is : descended file h f x ≡ down
+    unfolding keyTest
+    descended-is = descended-some file h f x some ∙ rw field (past (rootTest rs (h .depth)) _ (sym (collected-root file h out some) ∙ e))
+      where
+        past : (a : Answer) (r : Run) → ifPassed a noCounts out r ≡ fine c o → onPassed a down ≡ down
+        past (accepted figures) r passes = refl
+        past (refused number values) r passes = cc
+
+    answers-some : NeverFall o rs f (c .records) → Answers o (c .records)
+    unfolding placeFound
+    answers-some never =
+        let walk = collected-fine file h out some c o e in
+        let tests = collectTests file g in
+        let there = collecting-there file g in
+        let done = walk-done file g tests there (h .depth) _ _ noCounts out c o (rw zero-mul zero-le) walk in
+        let put = rw (← places-are) at (put-out file g tests there (h .depth) _ _ out c o done) in
+        let same = keys-same o (c .records) field put in
+        let many = put .many in
+        let rising = rising-from key places (λ i l. rw (← same i (omega arith), ← same (i + 1) (omega arith)) (never i (omega arith))) in
+        let d = descends file g f x tests (h .depth) _ _ (done .sound) (rw places-are at rising) in
+        record { put = put; same = same; accepts = rw descended-is (d .ends); place = rw (descended-is, d .ends, places-are) (d .last) }
+
+-- The theorem. The key has to be a field of the records where there are any.
+pub finds-first : (file : List ℕ) (h : BTreeV2Header) (f : Field) (x : ℕ) (out o : List ℕ) (c : Counts) → collected file h out ≡ fine c o
+    → (noRecords (h .«total_records») (h .«num_records_in_root») ≡ false → numberField f (recordSize h) ≡ true)
+    → NeverFall o (recordSize h) f (c .records) → FindsFirst file h f x o (c .records)
+finds-first file h f x out o c e field never = by-number file h f x o (c .records) (by (noRecords (h .«total_records») (h .«num_records_in_root»)) refl)
+  where
+    by : (t : Bool) → noRecords (h .«total_records») (h .«num_records_in_root») ≡ t → Answers file h f x o (c .records)
+    by true empty =
+        let run = sym (collected-empty file h out empty) ∙ e in
+        let counts : noCounts ≡ c = cc in rw (← counts) (answers-none file h f x empty o)
+    by false some = answers-some file h f x some (field some) out o c e never
