@@ -85,22 +85,22 @@ module _ (file : List ℕ) (g : Geometry) where
     descent-holds zero a n =
         holds-passed 0 _ _ (leaf-plain file _ a n)
         (λ figures e.
-          record {
-            there = all-append (bounding-there a n (collecting-there file g .leaf a n figures e .1)) all-none;
-            most = omega arith;
-            all = λ e. refl;
-            plain = accepts;
-          })
+        record {
+          there = all-append (bounding-there a n (collecting-there file g .leaf a n figures e .1)) all-none;
+          most = omega arith;
+          all = λ e. refl;
+          plain = accepts;
+        })
     descent-holds (suc d) a n =
         holds-passed (suc d) _ _ (internal-plain file _ _ _ a n)
         (λ figures e.
-          let next = descent-holds d _ _ in
-          record {
-            there = all-append (bounding-there a n (collecting-there file g .internal d a n figures e .1)) (next .there);
-            most = omega (arith, next .most);
-            all = λ e. omega (arith, next .all e);
-            plain = next .plain;
-          })
+        let next = descent-holds d _ _ in
+        record {
+          there = all-append (bounding-there a n (collecting-there file g .internal d a n figures e .1)) (next .there);
+          most = omega (arith, next .most);
+          all = λ e. omega (arith, next .all e);
+          plain = next .plain;
+        })
 
 -- The call.
 module _ (file : List ℕ) (h : BTreeV2Header) (f : Field) (x : ℕ) where

@@ -81,17 +81,17 @@ module _ (file : List ℕ) (g : Geometry) (f : Field) (x : ℕ) where
           let s = split key (placesOfChild i) (recordPlace g a i) rest h in
           ⊎-elim
           (λ (l : keyAt i < x).
-            let t = child-taken m (i + 1) (s .right) in
-            let e : i + suc m ≡ i + 1 + m = omega arith in
-            record {
-              first = first-after key x (placesOfChild i) (recordPlace g a i) rest h l ∙ rw (lt-ltb (keyAt i) x l, e) (t .first);
-              rising = rw (lt-ltb (keyAt i) x l) (t .rising);
-            })
+          let t = child-taken m (i + 1) (s .right) in
+          let e : i + suc m ≡ i + 1 + m = omega arith in
+          record {
+            first = first-after key x (placesOfChild i) (recordPlace g a i) rest h l ∙ rw (lt-ltb (keyAt i) x l, e) (t .first);
+            rising = rw (lt-ltb (keyAt i) x l) (t .rising);
+          })
           (λ (l : x ≤ keyAt i).
-            record {
-              first = first-up-to key x (placesOfChild i) (recordPlace g a i) rest h l ∙ rw (le-ltb (keyAt i) x l, lt-ltb i (i + suc m) (omega arith));
-              rising = rw (le-ltb (keyAt i) x l) (s .left);
-            })
+          record {
+            first = first-up-to key x (placesOfChild i) (recordPlace g a i) rest h l ∙ rw (le-ltb (keyAt i) x l, lt-ltb i (i + suc m) (omega arith));
+            rising = rw (le-ltb (keyAt i) x l) (s .left);
+          })
           (lt-or-le (keyAt i) x)
 
   -- Down from a node whose tree is sound.

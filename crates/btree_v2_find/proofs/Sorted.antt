@@ -44,7 +44,7 @@ module _ (o : List ℕ) (rs : ℕ) (f : Field) (x : ℕ) where
       by none true e = inl (n, record { among = omega arith; has = eqb-true _ _ e; before = none })
       by none false e =
           inr (λ i l is.
-            ⊎-elim (λ (k : i < n). none i k is) (λ (k : n ≤ i). let same : i ≡ n = omega arith in eqb-false _ _ e (rw same at is)) (lt-or-le i n))
+          ⊎-elim (λ (k : i < n). none i k is) (λ (k : n ≤ i). let same : i ≡ n = omega arith in eqb-false _ _ e (rw same at is)) (lt-or-le i n))
 
 module _ (file : List ℕ) (h : BTreeV2Header) (f : Field) (x : ℕ) where
   abbrev g : Geometry
@@ -80,8 +80,8 @@ module _ (file : List ℕ) (h : BTreeV2Header) (f : Field) (x : ℕ) where
       let many = a .put .many in
       let either = first-or-none o rs f x n in
       let first : (i : ℕ) → First o rs f n x i → answered file h f x ≡ getD places i 0 ∷ [] = λ i t.
-          let among = t .among in
-          a .place ∙ first-is key x places i (omega arith) (sym (a .same i among) ∙ t .has) (λ j l e. t .before j l (a .same j (omega arith) ∙ e)) in
+      let among = t .among in
+      a .place ∙ first-is key x places i (omega arith) (sym (a .same i among) ∙ t .has) (λ j l e. t .before j l (a .same j (omega arith) ∙ e)) in
       record {
         many = many;
         bytes = a .put .bytes;

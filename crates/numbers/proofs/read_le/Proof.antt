@@ -1,5 +1,5 @@
 -- `read_le` reads the bytes that there are.
-use Rattle.numbers.proofs.Reading.{read-past, read-low, read-part}
+use Rattle.numbers.proofs.Reading.{read-past, read-low}
 use native.Mathlib.Omega.{arith}
 use borrow.Author.Needs.{needs}
 use Rattle.numbers.proofs.read_le.Statement.{statement}
@@ -12,7 +12,6 @@ read-le-spec =
     (λ c. search read-past)
     (λ c. search needs) (λ c. search needs) (λ c. search needs) (λ c κs. search needs) (λ c κs. search needs)
     (λ c.
-    let rest = c .before .before in
-    read-low _ _ _ (rest .if2 .taken) (λ i. omega (arith, rest .before .before .before .shared-slice-known .given i)) _ _ (c .before .read-u64 .ensures) (c .low-bytes .ensures))
-    (λ c κs. search needs) (λ c κs. search needs)
-    (λ c. search read-part))
+    let rest = c .before .before .before in
+    read-low _ _ _ (rest .if1 .left) (λ i. omega (arith, rest .before .shared-slice-known .given i)) _ _
+    (c .before .read-u64 .ensures) (c .low-bytes .ensures)))

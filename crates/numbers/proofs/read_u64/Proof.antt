@@ -8,6 +8,7 @@ pub read-u64-spec : {M : Type 1} → statement M
 read-u64-spec =
     tie.close
     (tie.spec
+    (λ c κs. search needs) (λ c. search needs)
     (λ c κs. search needs)
     (λ c κs. search needs) (λ c. search needs) (λ c. search needs)
     (λ c κs. search needs) (λ c. search needs) (λ c. search needs)

@@ -1,0 +1,18 @@
+-- `read_short`: as `read_u64`, with 7 bytes.
+use Rattle.numbers.proofs.Reading.{num-short}
+use borrow.Author.Needs.{needs}
+use Rattle.numbers.proofs.read_short.Statement.{statement}
+use Rattle.numbers.proofs.read_short.Tie as tie
+
+pub read-short-spec : {M : Type 1} → statement M
+read-short-spec =
+    tie.close
+    (tie.spec
+    (λ c κs. search needs)
+    (λ c κs. search needs) (λ c. search needs) (λ c. search needs)
+    (λ c κs. search needs) (λ c. search needs) (λ c. search needs)
+    (λ c κs. search needs) (λ c. search needs) (λ c. search needs)
+    (λ c κs. search needs) (λ c. search needs) (λ c. search needs)
+    (λ c κs. search needs) (λ c. search needs) (λ c. search needs)
+    (λ c κs. search needs) (λ c. search needs) (λ c. search needs)
+    (λ c. search num-short))
