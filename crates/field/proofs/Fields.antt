@@ -48,11 +48,7 @@ module _ (f : Field) (rs : ℕ) where
       by true false u a b c h = absurd (true≢false (sym h))
       by false t u a b c h = absurd (true≢false (sym h))
 
--- `read_number`: the number at a place that is saturated; and the field's own where it has 8 bytes at most.
-pub number-read : (bytes : List ℕ) (f : Field) (p at : ℕ) → at ≡ saturated (p + f .start) → length bytes < 2 ^ 64 → (x : ℕ)
-    → x ≡ num bytes at (min (f .width) 8) → x ≡ num bytes (p + f .start) (min (f .width) 8)
-number-read bytes f p at e small x h = rw (h, e, num-saturated _ _ _ small)
-
+-- What `read_number` gives is the field's own number where it has 8 bytes at most.
 pub number-is : (bytes : List ℕ) (f : Field) (p : ℕ) → f .width ≤ 8 → num bytes (p + f .start) (min (f .width) 8) ≡ numberAt bytes f p
 unfolding numberAt
 number-is bytes f p few = rw (min-eq-left few)

@@ -1,2 +1,3 @@
 -- The laws of a number field.
+mod Reading
 pub mod Fields

@@ -1,7 +1,8 @@
 // A number field inside a record: whether a record has it, and its number.
 
 ghost use mathlib.Core.Path.{_≡_};
-ghost use Prim.Native.Nat.{_+_, min};
+ghost use Prim.Native.Nat.{_+_, _%_, _^_, _<_, min};
+ghost use lib.ListN.{length, getD};
 ghost use Rattle.numbers.specs.Numbers.{num};
 ghost use Rattle.field.specs.Field.{numberField};
 
@@ -30,5 +31,60 @@ pub fn read_number(data: &[u8], field: Field, place: u64) -> u64
     ensures { λ r. ⌜ r ≡ num (now («data» .entry)) (place + field .start) (min (field .width) 8) ⌝ }
 {
     let at = numbers::saturating_add(place, field.start);
-    numbers::read_le(data, at as usize, field.width as usize)
+    low_bytes(read_u64(numbers::part(data, at, 8)), field.width)
+}
+
+// The number in the first 8 bytes, or in as many as there are. Of 8 bytes the sum becomes one load.
+fn read_u64(data: &[u8]) -> u64
+    ensures { λ r. ⌜ r ≡ num (now («data» .entry)) 0 8 ⌝ }
+{
+    if data.len() < 8 {
+        return read_short(data);
+    }
+    byte(data, 0)
+        + 0x100 * byte(data, 1)
+        + 0x1_0000 * byte(data, 2)
+        + 0x100_0000 * byte(data, 3)
+        + 0x1_0000_0000 * byte(data, 4)
+        + 0x100_0000_0000 * byte(data, 5)
+        + 0x1_0000_0000_0000 * byte(data, 6)
+        + 0x100_0000_0000_0000 * byte(data, 7)
+}
+
+// The number in all bytes, of which there are fewer than 8.
+fn read_short(data: &[u8]) -> u64
+    requires { ⌜ length (now «data») < 8 ⌝ }
+    ensures { λ r. ⌜ r ≡ num (now («data» .entry)) 0 8 ⌝ }
+{
+    byte(data, 0)
+        + 0x100 * byte(data, 1)
+        + 0x1_0000 * byte(data, 2)
+        + 0x100_0000 * byte(data, 3)
+        + 0x1_0000_0000 * byte(data, 4)
+        + 0x100_0000_0000 * byte(data, 5)
+        + 0x1_0000_0000_0000 * byte(data, 6)
+}
+
+// The byte at i; 0 past the end.
+fn byte(data: &[u8], i: usize) -> u64
+    ensures { λ r. ⌜ (r ≡ getD (now («data» .entry)) i 0) × (r < 256) ⌝ }
+{
+    if data.len() <= i {
+        return 0;
+    }
+    data[i] as u64
+}
+
+// The number in the low `width` bytes of x; a width above 8 counts as 8.
+fn low_bytes(x: u64, width: u64) -> u64
+    ensures { λ r. ⌜ r ≡ x % 256 ^ min width 8 ⌝ }
+{
+    if 8 <= width {
+        return x;
+    }
+    if width == 0 {
+        return 0;
+    }
+    let over = 64 - 8 * width;
+    (x << over) >> over
 }

@@ -1,89 +1,46 @@
--- Numbers read from bytes: 8 bytes joined, the low ones of them, and `read_le`.
-use mathlib.Core.Path.{_≡_, refl, sym}
-use mathlib.Core.Logic.{⊎-elim}
+-- `read_bytes`, whose loop goes down from the last byte, and `read_le`.
+use mathlib.Core.Path.{_≡_}
 use mathlib.Core.List.{List}
-use Prim.Native.Nat.{ℕ, suc, _+_, _-_, _*_, _/_, _%_, _^_, _≤_, _<_, min}
-use native.Mathlib.Nat.{le-of-lt, min-eq-left, min-eq-right, mod-eq-of-lt, mod-one, add-mul-mod-self-left}
+use Prim.Native.Nat.{ℕ, suc, _+_, _-_, _*_, _^_, _≤_, _<_, min}
+use native.Mathlib.Nat.{le-refl, sub-self, sub-zero, pow-succ', pow-le-pow-right, lt-of-lt-of-le}
 use native.Mathlib.Omega.{arith}
 use lib.Dec.{lit<}
-use lib.Pow.{shl-shr, field}
-use lib.ListN.{length, getD, take, drop, length-drop, List·getD-eq-default}
-use lib.Seq.{take-all}
+use lib.ListN.{length, getD, take, drop}
 use Rattle.numbers.specs.Numbers.{unle, num}
-use Rattle.numbers.proofs.Lists.{part-cons, part-past, part-rest}
-use Rattle.numbers.proofs.Numbers.{lt-or-le, num-add, num-lt, pow-256}
+use Rattle.numbers.proofs.Lists.{part-cons, part-past, part-take, part-min}
 
--- `byte`: past the end.
-pub byte-none : (l : List ℕ) (i : ℕ) → length l ≤ i → (0 ≡ getD l i 0) × (0 < 256)
-byte-none l i h = (sym (List·getD-eq-default l 0 {n = i} h), lit< tt)
+-- x is the number in the bytes from i on, below n.
+abbrev pub Read : List ℕ → ℕ → ℕ → ℕ → Type 0
+Read d n x i = (i ≤ n) × (x ≡ num d i (n - i)) × (x < 256 ^ (n - i))
 
--- The lowest byte and those above, 0 past the end.
-num-cons : (l : List ℕ) (p w : ℕ) → num l p (suc w) ≡ getD l p 0 + 256 * num l (p + 1) w
+pub read-start : (d : List ℕ) (n : ℕ) → Read d n 0 n
 unfolding num unle
-num-cons l p w =
-    ⊎-elim
-    (λ (h : p < length l). rw (part-cons l p w 0 h))
-    (λ (h : length l ≤ p).
-    let past : length l ≤ p + 1 = omega arith in
-    rw (part-past l p (suc w) h, part-past l (p + 1) w past, List·getD-eq-default l 0 {n = p} h))
-    (lt-or-le p (length l))
+read-start d n = (le-refl n, rw sub-self, rw sub-self (lit< tt))
 
-num-none : (l : List ℕ) (p : ℕ) → num l p 0 ≡ 0
+pub read-room : (d : List ℕ) (n x i : ℕ) → Read d n x i → 0 < i → n ≤ 8 → x < 2 ^ 56
+read-room d n x i h p l = lt-of-lt-of-le (h .2) (pow-le-pow-right (lit< tt) {j = 7} (omega arith))
+
+pub read-turn : (d : List ℕ) (n x i : ℕ) → Read d n x i → 0 < i → n ≤ length d → getD d (i - 1) 0 < 256
+    → Read d n (256 * x + getD d (i - 1) 0) (i - 1)
 unfolding num unle
-num-none l p = refl
+read-turn d n x i h p l b =
+    let e : n - (i - 1) ≡ suc (n - i) = omega arith in
+    let f : i - 1 + 1 ≡ i = omega arith in
+    (omega arith, rw (e, part-cons d (i - 1) (n - i) 0 (omega arith), f, ← h .1) (omega arith), rw (e, pow-succ') (omega arith))
 
--- `read_u64` and `read_short` join 8 bytes, of which the last may be missing.
-module _ (l : List ℕ) (a b c d e f g : ℕ) (a0 : a ≡ getD l 0 0) (b1 : b ≡ getD l 1 0) (c2 : c ≡ getD l 2 0) (d3 : d ≡ getD l 3 0)
-    (e4 : e ≡ getD l 4 0) (f5 : f ≡ getD l 5 0) (g6 : g ≡ getD l 6 0) where
-  abbrev seven : ℕ
-  seven = a + 256 * b + 256 ^ 2 * c + 256 ^ 3 * d + 256 ^ 4 * e + 256 ^ 5 * f + 256 ^ 6 * g
+pub read-end : (d : List ℕ) (n x i : ℕ) → Read d n x i → i ≤ 0 → x ≡ num d 0 n
+read-end d n x i h l =
+    let e : i ≡ 0 = omega arith in
+    rw (e, sub-zero) at (h .1)
 
-  pub num-8 : (h : ℕ) → h ≡ getD l 7 0 → seven + 256 ^ 7 * h ≡ num l 0 8
-  num-8 h h7 =
-      rw (num-cons l 0 7, num-cons l 1 6, num-cons l 2 5, num-cons l 3 4, num-cons l 4 3, num-cons l 5 2, num-cons l 6 1, num-cons l 7 0, num-none l 8)
-      (omega arith)
-
-  pub num-short : length l < 8 → seven ≡ num l 0 8
-  num-short short = let none = byte-none l 7 (omega arith) in omega (arith, num-8 0 (none .0))
-
--- `low_bytes`: all of x, nothing, or x without the bits above.
-module _ (x w : ℕ) where
-  pub low-all : 8 ≤ w → x < 2 ^ 64 → x ≡ x % 256 ^ min w 8
-  low-all h fits = rw (min-eq-right h) (sym (mod-eq-of-lt fits))
-
-  pub low-none : w ≡ 0 → 0 ≡ x % 256 ^ min w 8
-  low-none e = rw e (sym (mod-one x))
-
-  pub low-some : w < 8 → x * 2 ^ (64 - 8 * w) % 2 ^ 64 / 2 ^ (64 - 8 * w) ≡ x % 256 ^ min w 8
-  low-some h =
-      let all : 8 * w + (64 - 8 * w) ≡ 64 = omega arith in
-      rw (min-eq-left (le-of-lt h), pow-256) (rw (all, shl-shr) at (field (x * 2 ^ (64 - 8 * w)) (8 * w) (64 - 8 * w)))
-
--- The number in the first m of m + v bytes.
-num-low : (l : List ℕ) (p m v : ℕ) → ((i : ℕ) → getD l i 0 < 256) → num l p (m + v) % 256 ^ m ≡ num l p m
-unfolding num
-num-low l p m v bytes =
-    ⊎-elim
-    (λ (h : p + m < length l). rw (num-add l p m v (omega arith), add-mul-mod-self-left) below)
-    (λ (h : length l ≤ p + m).
-    let past : length l ≤ p + (m + v) = omega arith in
-    let same : num l p (m + v) ≡ num l p m = rw (part-rest l p (m + v) past, part-rest l p m h) in
-    rw same below)
-    (lt-or-le (p + m) (length l))
-  where
-    below : num l p m % 256 ^ m ≡ num l p m
-    below = mod-eq-of-lt (num-lt l p m bytes)
-
--- `read_le`: nothing from the end on, else the low bytes of those that there are.
+-- `read_le`: nothing from the end on, else the bytes that there are.
 module _ (d : List ℕ) (at w : ℕ) where
   pub read-past : length d ≤ at → 0 ≡ num d at (min w 8)
   unfolding num unle
   read-past h = rw (part-past d at (min w 8) h)
 
-  pub read-low : at < length d → ((i : ℕ) → getD d i 0 < 256) → (x r : ℕ) → x ≡ num (take (length d - at) (drop at d)) 0 8
-      → r ≡ x % 256 ^ min w 8 → r ≡ num d at (min w 8)
+  pub read-part : (m n r : ℕ) → m ≡ min w 8 → n ≡ min m (length d - at)
+      → r ≡ num (take (length d - at) (drop at d)) 0 n → r ≡ num d at (min w 8)
   unfolding num
-  read-low h bytes x r whole low =
-      let all : min w 8 + (8 - min w 8) ≡ 8 = omega arith in
-      let rest : take (length d - at) (drop at d) ≡ drop at d = take-all (length d - at) (drop at d) (simp length-drop (omega arith)) in
-      rw (low, whole, rest) (rw all at (num-low d at (min w 8) (8 - min w 8) bytes))
+  read-part m n r hm hn hr =
+      rw (hr, part-take (drop at d) (length d - at) 0 n (omega arith), hn, hm, part-min)

@@ -2,9 +2,9 @@
 // sizes that offsets and lengths may have.
 
 ghost use mathlib.Core.Path.{_≡_};
-ghost use Prim.Native.Nat.{_+_, _*_, _%_, _^_, _≤_, _<_, min};
+ghost use Prim.Native.Nat.{_+_, _≤_, min, _*_};
 ghost use lib.Dec.{leb};
-ghost use lib.ListN.{length, getD};
+ghost use lib.ListN.{length};
 ghost use Rattle.numbers.specs.Numbers.{pick, le, part, num, saturated, width, fieldSize};
 ghost use Rattle.numbers.specs.Places.{put};
 
@@ -16,62 +16,29 @@ pub fn read_le(data: &[u8], at: usize, width: usize) -> u64
     if data.len() <= at {
         return 0;
     }
-    low_bytes(read_u64(&data[at..]), width)
+    let n = smaller(smaller(width, 8), data.len() - at);
+    read_bytes(&data[at..], n)
 }
 
-// The number in the first 8 bytes, or in as many as there are. Of 8 bytes the sum becomes one load.
-fn read_u64(data: &[u8]) -> u64
-    ensures { λ r. ⌜ r ≡ num (now («data» .entry)) 0 8 ⌝ }
+// The smaller of two numbers.
+fn smaller(a: usize, b: usize) -> usize
+    ensures { λ r. ⌜ r ≡ min a b ⌝ }
 {
-    if data.len() < 8 {
-        return read_short(data);
-    }
-    byte(data, 0)
-        + 0x100 * byte(data, 1)
-        + 0x1_0000 * byte(data, 2)
-        + 0x100_0000 * byte(data, 3)
-        + 0x1_0000_0000 * byte(data, 4)
-        + 0x100_0000_0000 * byte(data, 5)
-        + 0x1_0000_0000_0000 * byte(data, 6)
-        + 0x100_0000_0000_0000 * byte(data, 7)
+    if a < b { a } else { b }
 }
 
-// The number in all bytes, of which there are fewer than 8.
-fn read_short(data: &[u8]) -> u64
-    requires { ⌜ length (now «data») < 8 ⌝ }
-    ensures { λ r. ⌜ r ≡ num (now («data» .entry)) 0 8 ⌝ }
+// The number in the first n bytes.
+fn read_bytes(data: &[u8], n: usize) -> u64
+    requires { ⌜ (n ≤ length (now «data»)) × (n ≤ 8) ⌝ }
+    ensures { λ r. ⌜ r ≡ num (now («data» .entry)) 0 n ⌝ }
 {
-    byte(data, 0)
-        + 0x100 * byte(data, 1)
-        + 0x1_0000 * byte(data, 2)
-        + 0x100_0000 * byte(data, 3)
-        + 0x1_0000_0000 * byte(data, 4)
-        + 0x100_0000_0000 * byte(data, 5)
-        + 0x1_0000_0000_0000 * byte(data, 6)
-}
-
-// The byte at i; 0 past the end.
-fn byte(data: &[u8], i: usize) -> u64
-    ensures { λ r. ⌜ (r ≡ getD (now («data» .entry)) i 0) × (r < 256) ⌝ }
-{
-    if data.len() <= i {
-        return 0;
+    let mut x: u64 = 0;
+    let mut i = n;
+    while 0 < i {
+        i -= 1;
+        x = 256 * x + (data[i] as u64);
     }
-    data[i] as u64
-}
-
-// The number in the low `width` bytes of x; a width above 8 counts as 8.
-fn low_bytes(x: u64, width: usize) -> u64
-    ensures { λ r. ⌜ r ≡ x % 256 ^ min width 8 ⌝ }
-{
-    if 8 <= width {
-        return x;
-    }
-    if width == 0 {
-        return 0;
-    }
-    let over = 64 - 8 * (width as u64);
-    (x << over) >> over
+    x
 }
 
 // Puts x at `at`, lowest byte first, into `width` bytes, where these fit, and gives the place after them; else changes nothing and gives

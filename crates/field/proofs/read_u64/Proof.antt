@@ -1,8 +1,8 @@
 -- `read_u64`: each byte is below 256, so the sum fits.
-use Rattle.numbers.proofs.Reading.{num-8}
+use Rattle.field.proofs.Reading.{num-8}
 use borrow.Author.Needs.{needs}
-use Rattle.numbers.proofs.read_u64.Statement.{statement}
-use Rattle.numbers.proofs.read_u64.Tie as tie
+use Rattle.field.proofs.read_u64.Statement.{statement}
+use Rattle.field.proofs.read_u64.Tie as tie
 
 pub read-u64-spec : {M : Type 1} → statement M
 read-u64-spec =

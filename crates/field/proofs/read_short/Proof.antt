@@ -1,8 +1,8 @@
 -- `read_short`: as `read_u64`, with 7 bytes.
-use Rattle.numbers.proofs.Reading.{num-short}
+use Rattle.field.proofs.Reading.{num-short}
 use borrow.Author.Needs.{needs}
-use Rattle.numbers.proofs.read_short.Statement.{statement}
-use Rattle.numbers.proofs.read_short.Tie as tie
+use Rattle.field.proofs.read_short.Statement.{statement}
+use Rattle.field.proofs.read_short.Tie as tie
 
 pub read-short-spec : {M : Type 1} → statement M
 read-short-spec =

@@ -1,8 +1,8 @@
 -- `low_bytes` shifts the bits above out.
-use Rattle.numbers.proofs.Reading.{low-all, low-none, low-some}
+use Rattle.field.proofs.Reading.{low-all, low-none, low-some}
 use borrow.Author.Needs.{needs}
-use Rattle.numbers.proofs.low_bytes.Statement.{statement}
-use Rattle.numbers.proofs.low_bytes.Tie as tie
+use Rattle.field.proofs.low_bytes.Statement.{statement}
+use Rattle.field.proofs.low_bytes.Tie as tie
 
 pub low-bytes-spec : {M : Type 1} → statement M
 low-bytes-spec =

@@ -1,9 +1,9 @@
 -- `byte`: a byte is below 256.
-use Rattle.numbers.proofs.Reading.{byte-none}
+use Rattle.field.proofs.Reading.{byte-none}
 use native.Mathlib.Omega.{arith}
 use borrow.Author.Needs.{needs}
-use Rattle.numbers.proofs.byte.Statement.{statement}
-use Rattle.numbers.proofs.byte.Tie as tie
+use Rattle.field.proofs.byte.Statement.{statement}
+use Rattle.field.proofs.byte.Tie as tie
 
 pub byte-spec : {M : Type 1} → statement M
 byte-spec =
