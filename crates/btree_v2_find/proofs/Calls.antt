@@ -1,13 +1,13 @@
 -- The whole call: nothing to read, its refusals before the root, and the descent by the widths that the capacity table gives.
-use mathlib.Core.Path.{_≡_, refl, sym, _∙_}
+use mathlib.Core.Path.{_≡_, sym, _∙_}
 use mathlib.Core.Bool.{Bool, true, false}
 use mathlib.Core.List.{List, []}
-use Prim.Native.Nat.{ℕ, _≤_}
+use Prim.Native.Nat.{ℕ}
 use native.Mathlib.Omega.{arith}
 use lib.Dec.{leb}
 use borrow.Author.Tests.{le-leb}
 use Rattle.numbers.specs.Numbers.{pick}
-use Rattle.refusal.specs.Answer.{Answer, accepted, refused, verdictOf}
+use Rattle.refusal.specs.Answer.{accepted, verdictOf}
 use Rattle.refusal.specs.declared.Refusal.{Refusal}
 use Rattle.refusal.specs.declared.Refusal.the-variants.{InvalidKeyField}
 use Rattle.refusal.specs.declared.Verdict.{Verdict}
@@ -19,7 +19,7 @@ use Rattle.node_info.proofs.Columns.{total-entry}
 use Rattle.field.specs.declared.Field.{Field}
 use Rattle.field.specs.Field.{numberField}
 use Rattle.read_checks.specs.Tests.{noRecords, rootTest}
-use Rattle.read_checks.proofs.Root.{Rooted, root-passed}
+use Rattle.read_checks.proofs.Root.{root-passed}
 use Rattle.btree_v2_header.specs.declared.BTreeV2Header.{BTreeV2Header}
 use Rattle.btree_v2_collect.specs.Collect.{collectTests}
 use Rattle.btree_v2_find.specs.Find.{lastWith, Descent, ended, onPassed, descent, keyTest, descended, placeFound, findCells}

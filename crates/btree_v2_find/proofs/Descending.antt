@@ -1,12 +1,12 @@
 -- The descent: the loop of `descend`, with a law for each way out of it.
 use mathlib.Core.Path.{_≡_, refl, sym, ap, _∙_}
 use mathlib.Core.Bool.{true}
-use mathlib.Core.List.{List, [], _∷_, _++_}
-use Prim.Native.Nat.{ℕ, zero, suc, _+_, _-_, _^_, _≤_, _<_}
+use mathlib.Core.List.{List, []}
+use Prim.Native.Nat.{ℕ, suc, _+_, _-_, _≤_, _<_}
 use native.Mathlib.Nat.{le-refl}
 use native.Mathlib.Omega.{arith}
-use lib.ListN.{length, getD}
-use Rattle.refusal.specs.Answer.{Answer, accepted, refused, cells, verdictOf}
+use lib.ListN.{getD}
+use Rattle.refusal.specs.Answer.{accepted, verdictOf}
 use Rattle.refusal.specs.declared.Refusal.{Refusal}
 use Rattle.refusal.specs.declared.Verdict.{Verdict}
 use Rattle.refusal.specs.declared.Verdict.the-variants.{Accepted, Refused}
@@ -22,7 +22,7 @@ use Rattle.btree_v2_internal.specs.Internal.{internalTest}
 use Rattle.btree_v2_internal.specs.Pointers.{addressAt, recordsAt}
 use Rattle.btree_v2_collect.specs.InFile.{atChild}
 use Rattle.btree_v2_collect.specs.Collect.{collectTests}
-use Rattle.btree_v2_collect.specs.Collecting.{NodeThere, ChildAt}
+use Rattle.btree_v2_collect.specs.Collecting.{NodeThere}
 use Rattle.btree_v2_collect.proofs.Nodes.{tested-by, child-by, leaf-tested, node-there}
 use Rattle.btree_v2_find.specs.Find.{oneOf, lastWith, Descent, ended, onPassed, behind, bound, bounding, descent, placeFound, findCells}
 use Rattle.btree_v2_find.specs.Answers.{placeOf, foundCells}

@@ -13,7 +13,12 @@ use lib.ListN.{length, getD}
 use borrow.Author.Tests.{ltb-true, ltb-false, eqb-true, eqb-false, eq-eqb, ne-eqb}
 use Rattle.numbers.specs.Numbers.{pick}
 use Rattle.numbers.proofs.Numbers.{lt-or-le}
-use Rattle.btree_v2_find.specs.Find.{oneOf, boundFrom, ifKey, lastWith, firstWith}
+use Rattle.btree_v2_find.specs.Find.{oneOf, boundFrom, ifKey, lastWith}
+
+-- The first of these places whose key is x: a list of one, or of none.
+unfoldable pub firstWith : (ℕ → ℕ) → ℕ → List ℕ → List ℕ
+firstWith key x [] = []
+firstWith key x (p ∷ ps) = oneOf (ifKey key x p) (firstWith key x ps)
 
 -- P of every place of a list.
 pub data AllOf (P : ℕ → Type 0) : List ℕ → Type 0 where

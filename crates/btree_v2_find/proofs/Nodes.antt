@@ -18,8 +18,8 @@ use Rattle.field.specs.Field.{numberAt}
 use Rattle.btree_v2_collect.specs.Walk.{Tests, recordPlace}
 use Rattle.btree_v2_collect.specs.InFile.{atChild, treeAt, placesFrom, childrenPlaces, placesAt, Sound}
 use Rattle.btree_v2_collect.proofs.InFile.{between-kids, child-sound}
-use Rattle.btree_v2_find.specs.Find.{oneOf, boundFrom, lastWith, firstWith, bound, bounding, descent}
-use Rattle.btree_v2_find.proofs.Keys.{one-nil, last-append, bound-from, Rising, split, first-after, first-up-to}
+use Rattle.btree_v2_find.specs.Find.{oneOf, boundFrom, lastWith, bound, bounding, descent}
+use Rattle.btree_v2_find.proofs.Keys.{firstWith, one-nil, last-append, bound-from, Rising, split, first-after, first-up-to}
 
 module _ (file : List ℕ) (g : Geometry) (f : Field) (x : ℕ) where
   abbrev key : ℕ → ℕ

@@ -24,10 +24,10 @@ use Rattle.btree_v2_collect.proofs.InFile.{walk-done}
 use Rattle.btree_v2_collect.proofs.Outcomes.{collected-empty, collected-root, collected-fine}
 use Rattle.btree_v2_collect.proofs.Places.{PutOut, put-out, put-each}
 use Rattle.btree_v2_collect.proofs.Tested.{collecting-there}
-use Rattle.btree_v2_find.specs.Find.{Descent, onPassed, lastWith, firstWith, descent, keyTest, descended, placeFound}
+use Rattle.btree_v2_find.specs.Find.{Descent, onPassed, lastWith, descent, keyTest, descended, placeFound}
 use Rattle.btree_v2_find.specs.Sorted.{keyOf, NeverFall, First, None, placesOf, recordSize, answered, FindsFirst}
 use Rattle.btree_v2_find.proofs.Calls.{descended-empty, descended-some}
-use Rattle.btree_v2_find.proofs.Keys.{all-from, first-is, first-none, rising-from}
+use Rattle.btree_v2_find.proofs.Keys.{firstWith, all-from, first-is, first-none, rising-from}
 use Rattle.btree_v2_find.proofs.Nodes.{descends}
 
 -- Some record is the first with the key, or none has it.

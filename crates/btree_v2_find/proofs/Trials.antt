@@ -14,7 +14,8 @@ use Rattle.read_checks.specs.Tests.{rootTest}
 use Rattle.btree_v2_header.specs.declared.BTreeV2Header.{BTreeV2Header}
 use Rattle.btree_v2_internal.specs.Internal.{pointerPlace, childAddress, childRecords}
 use Rattle.btree_v2_collect.specs.Walk.{Tests}
-use Rattle.btree_v2_find.specs.Find.{boundFrom, lastWith, firstWith, Descent, ended, bound, bounding, descent, keyTest, descended, placeFound}
+use Rattle.btree_v2_find.specs.Find.{boundFrom, lastWith, Descent, ended, bound, bounding, descent, keyTest, descended, placeFound}
+use Rattle.btree_v2_find.proofs.Keys.{firstWith}
 
 abbrev field : ℕ → ℕ → Field
 field s w = record { start = s; width = w }

@@ -26,17 +26,14 @@ module _ (key : ℕ → ℕ) (x : ℕ) where
   boundFrom zero i = i
   boundFrom (suc n) i = let later = boundFrom n (i + 1) in pick (ltb (key i) x) later i
 
-  -- The last of these places whose key is x, and the first: a list of one, or of none.
+  -- This place, where its key is x.
   abbrev pub ifKey : ℕ → List ℕ
   ifKey p = pick (eqb (key p) x) (p ∷ []) []
 
+  -- The last of these places whose key is x: a list of one, or of none.
   unfoldable pub lastWith : List ℕ → List ℕ
   lastWith [] = []
   lastWith (p ∷ ps) = oneOf (lastWith ps) (ifKey p)
-
-  unfoldable pub firstWith : List ℕ → List ℕ
-  firstWith [] = []
-  firstWith (p ∷ ps) = oneOf (ifKey p) (firstWith ps)
 
 -- A descent: how it ended, the places of the bounding records on it, and the nodes read.
 pub record Descent : Type 0 where
