@@ -16,4 +16,9 @@ find-spec =
     (λ c κs. search root-sought)
     (λ c. search needs)
     (λ c κs. search needs)
-    (λ c. search key-refused))
+    (λ c.
+    let field = c .before .before in
+    let root = field .before .before .before in
+    let empty = root .before .before in
+    key-refused _ _ _ _ _ (empty .before .is-empty .ensures) (empty .if1 .left) _ (root .check-root .ensures) (field .before .enum-told .given .1)
+    _ (field .is-number-field .ensures) (c .before .if2 .left) _ (c .ended3 .ensures)))
