@@ -40,7 +40,7 @@ module _ (file : List ℕ) (f : Field) (x : ℕ) (whole : Descent) where
   pub begins : GoesOn file f x whole whole 0 []
   begins = record { ends = refl; nodes = omega arith; last = one-nil (last (whole .bounds)) }
 
-  past : (k : ℕ) (kept ps : List ℕ) (next : Descent) → GoesOn file f x whole (behind 1 ps next) k kept
+  past : (k : ℕ) (kept ps : List ℕ) (next : Descent) → GoesOn file f x whole (behind ps next) k kept
       → GoesOn file f x whole next (k + 1) (oneOf (last ps) kept)
   past k kept ps next on =
       record {
@@ -97,7 +97,7 @@ module _ (file : List ℕ) (g : Geometry) (f : Field) (x depth : ℕ) (root : No
       abbrev next : Descent
       next = atChild file g (down u) u a n (bound file g f x a n)
 
-      opens : down level a n ≡ onPassed (collectTests file g .internal u a n) (behind 1 (bounding file g f x a n) next)
+      opens : down level a n ≡ onPassed (collectTests file g .internal u a n) (behind (bounding file g f x a n) next)
       unfolding descent
       opens = let above : level ≡ suc u = omega arith in ap (λ k. down k a n) above
 
@@ -137,7 +137,7 @@ module _ (file : List ℕ) (g : Geometry) (f : Field) (x depth : ℕ) (root : No
       done : depth - level ≡ depth
       done = omega arith
 
-      ends : down level a n ≡ onPassed (collectTests file g .leaf a n) (behind 1 (bounding file g f x a n) (ended (accepted [])))
+      ends : down level a n ≡ onPassed (collectTests file g .leaf a n) (behind (bounding file g f x a n) (ended (accepted [])))
       unfolding descent
       ends = let least : level ≡ 0 = omega arith in ap (λ k. down k a n) least
 

@@ -5,11 +5,11 @@ use mathlib.Core.List.{List, [], _∷_}
 use Prim.Native.Nat.{ℕ, suc, _+_, _-_, _^_, _≤_, _<_, min, zero-le}
 use native.Mathlib.Nat.{zero-mul, sub-zero}
 use native.Mathlib.Omega.{arith}
-use lib.Dec.{ltb}
+use lib.Dec.{ltb, eqb}
 use lib.ListN.{length}
 use mir.Syntax.{w64}
 use mir.Val.{Fits}
-use borrow.Author.Tests.{lt-ltb, le-ltb, eq-eqb, ne-eqb}
+use borrow.Author.Tests.{lt-ltb, le-ltb}
 use Rattle.numbers.specs.Numbers.{num}
 use Rattle.node_info.specs.declared.Geometry.{Geometry}
 use Rattle.field.specs.declared.Field.{Field}
@@ -75,10 +75,10 @@ module _ (file : List ℕ) (g : Geometry) (f : Field) (x a n : ℕ) where
       keep-none h = rw (← bounds, le-ltb i n h)
 
       module _ (h : i < n) (k : ℕ) (read : k ≡ num file (recordPlace g a i + f .start) (min (f .width) 8)) where
-        pub keep-here : k ≡ x → recordPlace g a i ∷ [] ≡ now-kept
+        pub keep-here : eqb k x ≡ true → recordPlace g a i ∷ [] ≡ now-kept
         unfolding bounding lastWith
-        keep-here e = rw (← bounds, lt-ltb i n h, eq-eqb (key i) x (sym (key-read _ i k refl read) ∙ e))
+        keep-here e = rw (← bounds, lt-ltb i n h, rw (key-read _ i k refl read) at e)
 
-        pub keep-other : (k ≡ x → ⊥) → kept ≡ now-kept
+        pub keep-other : eqb k x ≡ false → kept ≡ now-kept
         unfolding bounding lastWith
-        keep-other e = rw (← bounds, lt-ltb i n h, ne-eqb (key i) x (λ same. e (key-read _ i k refl read ∙ same)))
+        keep-other e = rw (← bounds, lt-ltb i n h, rw (key-read _ i k refl read) at e)

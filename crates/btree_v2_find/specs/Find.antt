@@ -35,7 +35,7 @@ module _ (key : ℕ → ℕ) (x : ℕ) where
   lastWith [] = []
   lastWith (p ∷ ps) = oneOf (lastWith ps) (ifKey p)
 
--- A descent: how it ended, the places of the bounding records on it, and the nodes read.
+-- A descent: how it ended, the places of the bounding records on it, from the root down, and the nodes read.
 pub record Descent : Type 0 where
   pub ends : Answer
   pub bounds : List ℕ
@@ -50,12 +50,13 @@ abbrev pub onPassed : Answer → Descent → Descent
 onPassed (accepted figures) next = next
 onPassed (refused number values) next = ended (refused number values)
 
--- What follows behind k nodes that were read, with the bounding records ps.
-abbrev pub behind : ℕ → List ℕ → Descent → Descent
-behind k ps next = record { ends = next .ends; bounds = ps ++ next .bounds; nodes = k + next .nodes }
+-- What follows behind a node that was read and has the bounding records ps: one, or none.
+abbrev pub behind : List ℕ → Descent → Descent
+behind ps next = record { ends = next .ends; bounds = ps ++ next .bounds; nodes = 1 + next .nodes }
 
 module _ (file : List ℕ) (g : Geometry) (f : Field) (x : ℕ) where
-  -- The record that bounds the child taken in the node at a with n records: the first whose key is not below x; n where there is none.
+  -- The number of the record that bounds the child taken in the node at a with n records: the first whose key is not below x; n where there
+  -- is none.
   unfoldable pub bound : ℕ → ℕ → ℕ
   bound a n = boundFrom (λ i. numberAt file f (recordPlace g a i)) x n 0
 
@@ -66,15 +67,15 @@ module _ (file : List ℕ) (g : Geometry) (f : Field) (x : ℕ) where
   -- The descent from the node of level d at a with n records on, by the tests of a leaf and of an internal node.
   module _ (tests : Tests) where
     unfoldable pub descent : ℕ → ℕ → ℕ → Descent
-    descent zero a n = onPassed (tests .leaf a n) (behind 1 (bounding a n) (ended (accepted [])))
+    descent zero a n = onPassed (tests .leaf a n) (behind (bounding a n) (ended (accepted [])))
     descent (suc d) a n =
-        onPassed (tests .internal d a n) (behind 1 (bounding a n) (atChild file g (descent d) d a n (bound a n)))
+        onPassed (tests .internal d a n) (behind (bounding a n) (atChild file g (descent d) d a n (bound a n)))
 
 -- Refusal 17 where the key has not 1 to 8 bytes or runs past the end of a record of rs bytes.
 unfoldable pub keyTest : Field → ℕ → Answer
 keyTest f rs = orElse (numberField f rs) (refused 17 []) (accepted [])
 
--- Finding the key x, which has the field f, in the tree of a header.
+-- Finding the key x, a number in the field f, in the tree of a header.
 unfoldable pub descended : List ℕ → BTreeV2Header → Field → ℕ → Descent
 descended file h f x =
     let g = h .geometry in

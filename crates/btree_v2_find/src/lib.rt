@@ -60,10 +60,8 @@ fn keep(
         return kept;
     }
     let place = node.address + format::PREFIX_SIZE + (i as u64) * (geometry.record_size as u64);
-    if field::read_number(file, key, place) == sought {
-        return Place::At(place);
-    }
-    kept
+    let same = field::read_number(file, key, place) == sought;
+    if same { Place::At(place) } else { kept }
 }
 
 // A descent that a test ends, or that has nothing to read.

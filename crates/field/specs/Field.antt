@@ -10,6 +10,6 @@ use Rattle.field.specs.declared.Field.{Field}
 unfoldable pub numberField : Field → ℕ → Bool
 numberField f rs = (leb 1 (f .width) && leb (f .width) 8) && leb (f .start + f .width) rs
 
--- Its number in the record at place p of some bytes, low byte first.
+-- Its number in the record at place p of some bytes, low byte first. (`read_number` gives it where the width is 8 at most.)
 unfoldable pub numberAt : List ℕ → Field → ℕ → ℕ
 numberAt bytes f p = num bytes (p + f .start) (f .width)

@@ -54,7 +54,7 @@ abbrev pub onAccepted : Answer → Answer → Answer
 onAccepted (accepted figures) next = next
 onAccepted (refused number values) next = refused number values
 
--- One of two buffers: written where the answer accepts, else as it was.
+-- One of two lists by an answer: of a buffer what was written where the answer accepts, else as it was.
 abbrev pub ifAccepted : Answer → List ℕ → List ℕ → List ℕ
 ifAccepted (accepted figures) written entry = written
 ifAccepted (refused number values) written entry = entry

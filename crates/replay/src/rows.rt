@@ -1,4 +1,4 @@
-// The numbers of a stored row, and how they are saturated against those that a call gives.
+// The numbers of a stored row, and how they are held against those that a call gives.
 ghost use mathlib.Core.Path.{_≡_};
 ghost use mathlib.Core.Bool.{true};
 ghost use Prim.Native.Nat.{ℕ, _+_, _%_, _≤_, _<_};
