@@ -175,7 +175,7 @@ enum {
  * order, never fall, this is the first record with the key, and none is found only where no record
  * has it; in any other file a record that has the key can be missed. A tree without records is
  * accepted, and nothing found, before anything else is looked at. Refusals in this order: 8, 16,
- * 17, then those of the nodes read, as in collecting (1, 2, 4, 6).
+ * 17, then those of the nodes on the way, as in collecting (1, 2, 4, 6).
  */
 void btree_v2_find(const uint8_t *file, size_t file_length,
                    const uint64_t header[BTREE_V2_HEADER_FIGURES], uint8_t offset_size,

@@ -1,10 +1,10 @@
-//! The index of the site in a file: written amid other bytes, and read back.
+//! The index of the site in a file: written amid other bytes, read back, and one bay found in it.
 
 use std::error::Error;
 
-use nuldrafon::{Collected, Geometry, Header, Plan, WriteRequest};
+use nuldrafon::{jenkins_lookup3, Collected, Found, Geometry, Header, Plan, Refusal, WriteRequest};
 
-use crate::site::{RECORD_SIZE, TREE_TYPE};
+use crate::site::{HASH, RECORD_SIZE, TREE_TYPE};
 
 /// Nodes of 512 bytes, addresses of 8.
 pub const GEOMETRY: Geometry = Geometry::new(512, RECORD_SIZE, 8);
@@ -12,7 +12,7 @@ const LENGTH_SIZE: u8 = 8;
 
 // The file: the header and the nodes, with other bytes before, between and after them.
 const HEADER_AT: usize = 1_000;
-pub const NODES_AT: usize = 4_096;
+const NODES_AT: usize = 4_096;
 const AFTER: usize = 500;
 
 /// Every other byte of the file.
@@ -37,7 +37,17 @@ pub fn write(records: &[u8]) -> Result<(Vec<u8>, Plan), Box<dyn Error>> {
 
 /// Reads the header and then all records of the file.
 pub fn read(file: &[u8]) -> Result<(Header, Collected), Box<dyn Error>> {
-    let header = Header::parse(file, HEADER_AT as u64, GEOMETRY.offset_size, LENGTH_SIZE)?;
+    let header = header(file)?;
     let collected = header.collect_to_vec(file)?;
     Ok((header, collected))
+}
+
+/// Finds the record of the bay with this name, by the hash of the name.
+pub fn find(file: &[u8], name: &str) -> Result<Found, Box<dyn Error>> {
+    let hash = jenkins_lookup3(name.as_bytes());
+    Ok(header(file)?.find(file, HASH, hash.into())?)
+}
+
+fn header(file: &[u8]) -> Result<Header, Refusal> {
+    Header::parse(file, HEADER_AT as u64, GEOMETRY.offset_size, LENGTH_SIZE)
 }

@@ -1,5 +1,5 @@
-//! Writes the index of an example site into a file, reads it back, and shows what damaged copies of
-//! the file get.
+//! Writes the index of an example site into a file, reads it back, finds one bay in it, and shows
+//! what damaged copies of the file get.
 
 mod index;
 mod site;
@@ -7,11 +7,11 @@ mod site;
 use std::error::Error;
 use std::process::ExitCode;
 
-use index::NODES_AT;
 use site::Bay;
 
-/// The bay whose record is damaged.
+/// The bay that is found, and whose record is damaged; and one that the site does not have.
 const HIT: &str = "bay 17-04-2";
+const MISSING: &str = "bay 41-04-2";
 
 fn main() -> ExitCode {
     match run() {
@@ -38,7 +38,8 @@ fn run() -> Result<(), Box<dyn Error>> {
     );
     let file = write(&records)?;
     read(&file, &records)?;
-    damage(&file, &bays)
+    let place = find(&file, &bays)?;
+    damage(&file, place)
 }
 
 /// Writes the index and says what was made.
@@ -79,17 +80,28 @@ fn read(file: &[u8], records: &[u8]) -> Result<(), Box<dyn Error>> {
     Ok(())
 }
 
-/// Damages copies of the file; each must be refused.
-fn damage(file: &[u8], bays: &[Bay]) -> Result<(), Box<dyn Error>> {
-    let hit = bays
-        .iter()
-        .find(|bay| bay.name == HIT)
-        .ok_or("no such bay")?;
-    let record = hit.record();
-    let nodes = &file[NODES_AT..];
-    let place = nodes.windows(record.len()).position(|part| part == record);
-    let place = NODES_AT + place.ok_or("the bay is not in the index")?;
+/// Finds one bay by its name and gives its place in the file.
+fn find(file: &[u8], bays: &[Bay]) -> Result<usize, Box<dyn Error>> {
+    let hit = bays.iter().find(|bay| bay.name == HIT);
+    let record = hit.ok_or("no such bay")?.record();
+    let found = index::find(file, HIT)?;
+    let place = found.place.ok_or("the bay is not in the index")? as usize;
+    if !file[place..].starts_with(&record) {
+        return Err("the record found is not the bay's".into());
+    }
+    if index::find(file, MISSING)?.place.is_some() {
+        return Err("a bay was found that the site does not have".into());
+    }
+    println!(
+        "\nFound: {HIT} alone, for a sign that shows it, at byte {place} of the file; {} nodes were\n\
+         read. {MISSING} is not found: the site does not have it.",
+        found.nodes,
+    );
+    Ok(place)
+}
 
+/// Damages copies of the file, two of them in the record at `place`; each must be refused.
+fn damage(file: &[u8], place: usize) -> Result<(), Box<dyn Error>> {
     let mut flipped = file.to_vec();
     flipped[place] ^= 1;
     let mut exchanged = file.to_vec();

@@ -1,10 +1,13 @@
 //! The example site: its bays, and the record that the index holds of each.
 
+use nuldrafon::Field;
+
 /// HDF5's number for an index of names.
 pub const TREE_TYPE: u8 = 5;
 
 /// A record: the hash of the bay's name (4 bytes, low byte first) and a heap id (7 bytes).
 pub const RECORD_SIZE: u16 = 11;
+pub const HASH: Field = Field::new(0, 4);
 
 pub const AISLES: u32 = 40;
 pub const POSITIONS: u32 = 30;
