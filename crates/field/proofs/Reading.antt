@@ -1,51 +1,57 @@
 -- A number read from 8 bytes at once: bytes joined, and the low ones of them.
 use mathlib.Core.Path.{_≡_, refl, sym, _∙_}
 use mathlib.Core.Logic.{⊎-elim}
-use mathlib.Core.List.{List}
-use Prim.Native.Nat.{ℕ, suc, _+_, _-_, _*_, _/_, _%_, _^_, _≤_, _<_, min}
-use native.Mathlib.Nat.{add-zero, le-of-lt, min-eq-left, min-eq-right, mod-eq-of-lt, mod-one, add-mul-mod-self-left}
+use mathlib.Core.List.{List, [], _∷_, _++_}
+use Prim.Native.Nat.{ℕ, zero, suc, _+_, _-_, _*_, _/_, _%_, _^_, _≤_, _<_, min}
+use native.Mathlib.Nat.{add-zero, mul-zero, le-of-lt, min-eq-left, min-eq-right, mod-eq-of-lt, mod-one, add-mul-mod-self-left}
 use native.Mathlib.Omega.{arith}
-use lib.Dec.{lit<}
 use lib.Pow.{shl-shr, field}
-use lib.ListN.{length, getD, List·getD-eq-default}
+use lib.ListN.{length, getD, drop, replicate, length-append, length-drop}
+use lib.Seq.{take-all, getD-drop}
 use Rattle.numbers.specs.Numbers.{unle, part, num, saturated}
-use Rattle.numbers.proofs.Lists.{part-cons, part-past, part-rest, part-part}
-use Rattle.numbers.proofs.Numbers.{lt-or-le, num-add, num-lt, pow-256}
+use Rattle.numbers.specs.Places.{put}
+use Rattle.numbers.proofs.Lists.{part-cons, part-rest, part-part, put-fits, stored-is}
+use Rattle.numbers.proofs.Numbers.{lt-or-le, unle-append, num-add, num-lt, pow-256}
 use Rattle.numbers.proofs.Copying.{num-saturated}
 use Rattle.field.specs.declared.Field.{Field}
 
--- `byte`: past the end.
-pub byte-none : (l : List ℕ) (i : ℕ) → length l ≤ i → (0 ≡ getD l i 0) × (0 < 256)
-byte-none l i h = (sym (List·getD-eq-default l 0 {n = i} h), lit< tt)
-
--- The lowest byte and those above, 0 past the end.
-num-cons : (l : List ℕ) (p w : ℕ) → num l p (suc w) ≡ getD l p 0 + 256 * num l (p + 1) w
+-- `join`: 8 bytes.
+pub num-8 : (l : List ℕ) (a b c d e f g h : ℕ) → 8 ≤ length l → a ≡ getD l 0 0 → b ≡ getD l 1 0 → c ≡ getD l 2 0 → d ≡ getD l 3 0
+    → e ≡ getD l 4 0 → f ≡ getD l 5 0 → g ≡ getD l 6 0 → h ≡ getD l 7 0
+    → a + 256 * b + 256 ^ 2 * c + 256 ^ 3 * d + 256 ^ 4 * e + 256 ^ 5 * f + 256 ^ 6 * g + 256 ^ 7 * h ≡ num l 0 8
 unfolding num unle
-num-cons l p w =
-    ⊎-elim
-    (λ (h : p < length l). rw (part-cons l p w 0 h))
-    (λ (h : length l ≤ p).
-    let past : length l ≤ p + 1 = omega arith in
-    rw (part-past l p (suc w) h, part-past l (p + 1) w past, List·getD-eq-default l 0 {n = p} h))
-    (lt-or-le p (length l))
+num-8 l a b c d e f g h there a0 b1 c2 d3 e4 f5 g6 h7 =
+    rw (
+      part-cons l 0 7 0 (omega arith),
+      part-cons l 1 6 0 (omega arith),
+      part-cons l 2 5 0 (omega arith),
+      part-cons l 3 4 0 (omega arith),
+      part-cons l 4 3 0 (omega arith),
+      part-cons l 5 2 0 (omega arith),
+      part-cons l 6 1 0 (omega arith),
+      part-cons l 7 0 0 (omega arith),
+    )
+    (omega arith)
 
-num-none : (l : List ℕ) (p : ℕ) → num l p 0 ≡ 0
-unfolding num unle
-num-none l p = refl
+-- `read_u64`: fewer than 8 bytes, with zeros behind them.
+unle-none : (l : List ℕ) → ((i : ℕ) → getD l i 0 ≡ 0) → unle l ≡ 0
+unfolding unle
+unle-none [] h = refl
+unle-none (x ∷ xs) h = rw (h 0, unle-none xs (λ i. h (suc i)))
 
--- `read_u64` and `read_short` join 8 bytes, of which the last may be missing.
-module _ (l : List ℕ) (a b c d e f g : ℕ) (a0 : a ≡ getD l 0 0) (b1 : b ≡ getD l 1 0) (c2 : c ≡ getD l 2 0) (d3 : d ≡ getD l 3 0)
-    (e4 : e ≡ getD l 4 0) (f5 : f ≡ getD l 5 0) (g6 : g ≡ getD l 6 0) where
-  abbrev seven : ℕ
-  seven = a + 256 * b + 256 ^ 2 * c + 256 ^ 3 * d + 256 ^ 4 * e + 256 ^ 5 * f + 256 ^ 6 * g
+zeros-none : (k i : ℕ) → getD {A = ℕ} (replicate k 0) i 0 ≡ 0
+zeros-none zero i = refl
+zeros-none (suc k) zero = refl
+zeros-none (suc k) (suc i) = zeros-none k i
 
-  pub num-8 : (h : ℕ) → h ≡ getD l 7 0 → seven + 256 ^ 7 * h ≡ num l 0 8
-  num-8 h h7 =
-      rw (num-cons l 0 7, num-cons l 1 6, num-cons l 2 5, num-cons l 3 4, num-cons l 4 3, num-cons l 5 2, num-cons l 6 1, num-cons l 7 0, num-none l 8)
-      (omega arith)
-
-  pub num-short : length l < 8 → seven ≡ num l 0 8
-  num-short short = let none = byte-none l 7 (omega arith) in omega (arith, num-8 0 (none .0))
+pub num-padded : (d : List ℕ) → length d < 8 → (e : List ℕ) → e ≡ put (replicate 8 0) 0 d → (r : ℕ) → r ≡ num e 0 8 → r ≡ num d 0 8
+unfolding num
+num-padded d short e padded r is =
+    let zeros : List ℕ = drop (0 + length d) (replicate 8 0) in
+    let whole : e ≡ d ++ zeros = padded ∙ put-fits (replicate 8 0) 0 d (omega arith) ∙ stored-is (replicate 8 0) 0 d in
+    let all : length (d ++ zeros) ≤ 8 = simp (length-append, length-drop) (omega arith) in
+    let none : unle zeros ≡ 0 = unle-none zeros (λ i. rw getD-drop (zeros-none 8 (0 + length d + i))) in
+    rw (is, whole, take-all 8 (d ++ zeros) all, unle-append, none, mul-zero, add-zero, take-all 8 d (le-of-lt short))
 
 -- `low_bytes`: all of x, nothing, or x without the bits above.
 module _ (x w : ℕ) where

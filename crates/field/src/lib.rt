@@ -1,7 +1,7 @@
 // A number field inside a record: whether a record has it, and its number.
 
 ghost use mathlib.Core.Path.{_≡_};
-ghost use Prim.Native.Nat.{_+_, _%_, _^_, _<_, min};
+ghost use Prim.Native.Nat.{_+_, _%_, _^_, _≤_, _<_, min};
 ghost use lib.ListN.{length, getD};
 ghost use Rattle.numbers.specs.Numbers.{num};
 ghost use Rattle.field.specs.Field.{numberField};
@@ -34,13 +34,23 @@ pub fn read_number(data: &[u8], field: Field, place: u64) -> u64
     low_bytes(read_u64(numbers::part(data, at, 8)), field.width)
 }
 
-// The number in the first 8 bytes, or in as many as there are. Of 8 bytes the sum becomes one load.
+// The number in the first 8 bytes, or in as many as there are.
 fn read_u64(data: &[u8]) -> u64
     ensures { λ r. ⌜ r ≡ num (now («data» .entry)) 0 8 ⌝ }
 {
     if data.len() < 8 {
-        return read_short(data);
+        let mut eight = [0u8; 8];
+        numbers::put_bytes(&mut eight, 0, data);
+        return join(&eight);
     }
+    join(data)
+}
+
+// The number in the first 8 bytes: a sum, which becomes one load.
+fn join(data: &[u8]) -> u64
+    requires { ⌜ 8 ≤ length (now «data») ⌝ }
+    ensures { λ r. ⌜ r ≡ num (now («data» .entry)) 0 8 ⌝ }
+{
     byte(data, 0)
         + 0x100 * byte(data, 1)
         + 0x1_0000 * byte(data, 2)
@@ -51,27 +61,11 @@ fn read_u64(data: &[u8]) -> u64
         + 0x100_0000_0000_0000 * byte(data, 7)
 }
 
-// The number in all bytes, of which there are fewer than 8.
-fn read_short(data: &[u8]) -> u64
-    requires { ⌜ length (now «data») < 8 ⌝ }
-    ensures { λ r. ⌜ r ≡ num (now («data» .entry)) 0 8 ⌝ }
-{
-    byte(data, 0)
-        + 0x100 * byte(data, 1)
-        + 0x1_0000 * byte(data, 2)
-        + 0x100_0000 * byte(data, 3)
-        + 0x1_0000_0000 * byte(data, 4)
-        + 0x100_0000_0000 * byte(data, 5)
-        + 0x1_0000_0000_0000 * byte(data, 6)
-}
-
-// The byte at i; 0 past the end.
+// The byte at i.
 fn byte(data: &[u8], i: usize) -> u64
+    requires { ⌜ i < length (now «data») ⌝ }
     ensures { λ r. ⌜ (r ≡ getD (now («data» .entry)) i 0) × (r < 256) ⌝ }
 {
-    if data.len() <= i {
-        return 0;
-    }
     data[i] as u64
 }
 

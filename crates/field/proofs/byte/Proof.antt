@@ -1,5 +1,4 @@
 -- `byte`: a byte is below 256.
-use Rattle.field.proofs.Reading.{byte-none}
 use native.Mathlib.Omega.{arith}
 use borrow.Author.Needs.{needs}
 use Rattle.field.proofs.byte.Statement.{statement}
@@ -9,7 +8,6 @@ pub byte-spec : {M : Type 1} → statement M
 byte-spec =
     tie.close
     (tie.spec
-    (λ c. search byte-none)
     (λ c. search needs)
-    (λ c. omega (arith, c .shared-slice-known .given (c .before .before .args .i)))
-    (λ c. (search needs, omega (arith, c .shared-slice-known .given (c .before .before .args .i)))))
+    (λ c. omega (arith, c .shared-slice-known .given (c .before .args .i)))
+    (λ c. (search needs, omega (arith, c .shared-slice-known .given (c .before .args .i)))))

@@ -1,11 +1,11 @@
--- `read_short`: as `read_u64`, with 7 bytes.
-use Rattle.field.proofs.Reading.{num-short}
+-- `join`: each byte is below 256, so the sum fits.
+use Rattle.field.proofs.Reading.{num-8}
 use borrow.Author.Needs.{needs}
-use Rattle.field.proofs.read_short.Statement.{statement}
-use Rattle.field.proofs.read_short.Tie as tie
+use Rattle.field.proofs.join.Statement.{statement}
+use Rattle.field.proofs.join.Tie as tie
 
-pub read-short-spec : {M : Type 1} → statement M
-read-short-spec =
+pub join-spec : {M : Type 1} → statement M
+join-spec =
     tie.close
     (tie.spec
     (λ c κs. search needs)
@@ -15,4 +15,5 @@ read-short-spec =
     (λ c κs. search needs) (λ c. search needs) (λ c. search needs)
     (λ c κs. search needs) (λ c. search needs) (λ c. search needs)
     (λ c κs. search needs) (λ c. search needs) (λ c. search needs)
-    (λ c. search num-short))
+    (λ c κs. search needs) (λ c. search needs) (λ c. search needs)
+    (λ c. search num-8))
