@@ -23,6 +23,7 @@ use Rattle.btree_v2_collect.proofs.Nodes.{record-there}
 use Rattle.btree_v2_collect.proofs.Tested.{collecting-there}
 use Rattle.btree_v2_find.specs.Find.{Descent, ended, onPassed, bound, bounding, descent, keyTest, descended, placeFound}
 use Rattle.btree_v2_find.specs.Sorted.{recordSize, answered}
+use Rattle.btree_v2_find.specs.Refusals.{nodesOn, RefusedAfter, here, below, RefusedBy, before-root, at-key, at-node}
 use Rattle.btree_v2_find.proofs.Calls.{descended-empty, descended-some}
 use Rattle.btree_v2_find.proofs.Keys.{AllOf, all-none, all-more, all-head, all-append, AtMostOne, no-place, NoneHas, last-is, last-none, last-only, last-has, last-one}
 
@@ -102,6 +103,25 @@ module _ (file : List ℕ) (g : Geometry) where
           plain = next .plain;
         })
 
+-- A descent that is refused: by the first of the nodes on it that does not pass, behind those read.
+module _ (number : ℕ) (values : List ℕ) where
+  past-test : (P : ℕ → Type 0) {a : Answer} (next : Descent) → Plain a → (a ≡ refused number values → P 0)
+      → (a ≡ accepted [] → next .ends ≡ refused number values → P (next .nodes))
+      → onPassed a next .ends ≡ refused number values → P (onPassed a next .nodes)
+  past-test P next accepts stops goes-on e = goes-on refl e
+  past-test P next (refuses k h) stops goes-on e = stops e
+
+  module _ (file : List ℕ) (g : Geometry) (f : Field) (x : ℕ) where
+    descent-refused : (d a n : ℕ) → descent file g f x (collectTests file g) d a n .ends ≡ refused number values
+        → RefusedAfter (collectTests file g) number values (descent file g f x (collectTests file g) d a n .nodes) (nodesOn file g f x d a n)
+    unfolding descent collectTests nodesOn
+    descent-refused zero a n =
+        past-test (λ i. RefusedAfter (collectTests file g) number values i (nodesOn file g f x 0 a n)) _ (leaf-plain file _ a n) here
+        (λ passes e. let z : _≡_ {A = ℕ} 0 1 = cc in absurd (omega arith))
+    descent-refused (suc d) a n =
+        past-test (λ i. RefusedAfter (collectTests file g) number values i (nodesOn file g f x (suc d) a n)) _ (internal-plain file _ _ _ a n) here
+        (λ passes e. below passes (descent-refused d _ _ e))
+
 -- The call.
 module _ (file : List ℕ) (h : BTreeV2Header) (f : Field) (x : ℕ) where
   abbrev g : Geometry
@@ -111,13 +131,16 @@ module _ (file : List ℕ) (h : BTreeV2Header) (f : Field) (x : ℕ) where
   pub nodes-empty : noRecords (h .«total_records») (h .«num_records_in_root») ≡ true → descended file h f x ≡ ended (accepted [])
   nodes-empty = descended-empty file h f x
 
-  root-holds : noRecords (h .«total_records») (h .«num_records_in_root») ≡ false → Holds file g (h .depth) (descended file h f x)
+  key-plain : Plain (keyTest f (recordSize h))
   unfolding keyTest
+  key-plain = plain-or (numberField f (recordSize h)) (refuses 17 (omega arith)) accepts
+
+  root-holds : noRecords (h .«total_records») (h .«num_records_in_root») ≡ false → Holds file g (h .depth) (descended file h f x)
   root-holds some =
       rw (descended-some file h f x some)
       (holds-passed file g (h .depth) (rootTest (recordSize h) (h .depth)) _ (root-plain (recordSize h) (h .depth))
       (λ figures e.
-      holds-passed file g (h .depth) _ _ (plain-or (numberField f (recordSize h)) (refuses 17 (omega arith)) accepts)
+      holds-passed file g (h .depth) _ _ key-plain
       (λ figures e. descent-holds file g f x (h .depth) _ _)))
 
   by-root : (P : Descent → Type 0) → P (ended (accepted [])) → ((r : Descent) → Holds file g (h .depth) r → P r) → P (descended file h f x)
@@ -138,6 +161,23 @@ module _ (file : List ℕ) (h : BTreeV2Header) (f : Field) (x : ℕ) where
   -- Finding has no output, and is never refused for want of it.
   pub never-15 : (number : ℕ) (values : List ℕ) → descended file h f x .ends ≡ refused number values → number ≡ 15 → ⊥
   never-15 number values = never-by-15 (by-root (λ r. Plain (r .ends)) accepts (λ r t. t .plain))
+
+  -- A refusal is that of a test before the root, of the key's field or of a node on the descent.
+  pub refused-by : (number : ℕ) (values : List ℕ) → descended file h f x .ends ≡ refused number values
+      → RefusedBy file h f x number values (descended file h f x .nodes)
+  refused-by number values = by (noRecords (h .«total_records») (h .«num_records_in_root»)) refl
+    where
+      P : Descent → Type 0
+      P r = r .ends ≡ refused number values → RefusedBy file h f x number values (r .nodes)
+
+      by : (t : Bool) → noRecords (h .«total_records») (h .«num_records_in_root») ≡ t → P (descended file h f x)
+      by true empty = rw (nodes-empty empty) (λ e. let z : _≡_ {A = ℕ} 0 1 = cc in absurd (omega arith))
+      by false some =
+          rw (descended-some file h f x some)
+          (past-test number values (RefusedBy file h f x number values) _ (root-plain (recordSize h) (h .depth)) before-root
+          (λ rooted.
+          past-test number values (RefusedBy file h f x number values) _ key-plain (at-key rooted)
+          (λ keyed e. at-node rooted keyed (descent-refused number values file g f x (h .depth) _ _ e))))
 
   -- Every bounding record is in the file; the one that is found has the key too.
   pub bounds-there : AllOf (λ p. p + recordSize h ≤ length file) (descended file h f x .bounds)
