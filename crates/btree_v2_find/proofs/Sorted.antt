@@ -26,7 +26,7 @@ use Rattle.btree_v2_collect.proofs.Places.{PutOut, put-out, put-each}
 use Rattle.btree_v2_collect.proofs.Tested.{collecting-there}
 use Rattle.btree_v2_find.specs.Find.{Descent, onPassed, lastWith, descent, keyTest, descended, placeFound}
 use Rattle.btree_v2_find.specs.Sorted.{keyOf, NeverFall, First, None, placesOf, recordSize, HasKey, answered, FindsFirst, FindsInOrder}
-use Rattle.btree_v2_find.proofs.Calls.{descended-empty, descended-some}
+use Rattle.btree_v2_find.proofs.Calls.{descended-empty, descended-some, descended-by}
 use Rattle.btree_v2_find.proofs.Keys.{firstWith, all-from, first-is, first-none, rising-from}
 use Rattle.btree_v2_find.proofs.Nodes.{descends, last-first}
 
@@ -146,11 +146,8 @@ module _ (file : List ℕ) (h : BTreeV2Header) (f : Field) (x : ℕ) where
 -- Finding accepts wherever collecting accepts and the key is a field of the records, whatever the order of their keys.
 module _ (file : List ℕ) (h : BTreeV2Header) (f : Field) (x : ℕ) (out o : List ℕ) (c : Counts) (e : collected file h out ≡ fine c o) (field : HasKey h f) where
   pub collecting-accepts : descended file h f x .ends ≡ accepted []
-  collecting-accepts = by (noRecords (h .«total_records») (h .«num_records_in_root»)) refl
-    where
-      by : (t : Bool) → noRecords (h .«total_records») (h .«num_records_in_root») ≡ t → descended file h f x .ends ≡ accepted []
-      by true empty = rw (descended-empty file h f x empty)
-      by false some = accepts-some file h f x some (field some) out o c e
+  collecting-accepts =
+      descended-by file h f x (λ r. r .ends ≡ accepted []) refl (λ some. accepts-some file h f x some (field some) out o c e)
 
 -- The theorem.
 pub finds-first : FindsInOrder
