@@ -24,9 +24,10 @@ use Rattle.btree_v2_collect.proofs.InFile.{RecordsThere, Done, walk-done}
 use Rattle.btree_v2_collect.proofs.Outcomes.{collected-empty, collected-root, collected-fine}
 use Rattle.btree_v2_collect.proofs.Places.{PutOut, put-out, put-each}
 use Rattle.btree_v2_collect.proofs.Tested.{collecting-there}
-use Rattle.btree_v2_find.specs.Find.{Descent, onPassed, lastWith, descent, keyTest, descended, placeFound}
+use Rattle.btree_v2_find.specs.Find.{Descent, onPassed, lastWith, descent, keyTest, descended, placeFound, findCells}
 use Rattle.btree_v2_find.specs.Sorted.{keyOf, NeverFall, First, None, placesOf, recordSize, HasKey, answered, FindsFirst, FindsInOrder}
 use Rattle.btree_v2_find.proofs.Calls.{descended-empty, descended-some, descended-by}
+use Rattle.btree_v2_find.proofs.Everywhere.{accepted-cells}
 use Rattle.btree_v2_find.proofs.Keys.{firstWith, all-from, first-is, first-none, rising-from}
 use Rattle.btree_v2_find.proofs.Nodes.{descends, last-first}
 
@@ -160,3 +161,18 @@ finds-first file h f x out o c e field never =
         let run = sym (collected-empty file h out empty) ∙ e in
         let counts : noCounts ≡ c = cc in rw (← counts) (answers-none file h f x empty o)
     by false some = answers-some file h f x some (field some) out o c e never
+
+-- The call's six numbers in a tree with records: it accepts, behind one node of each level, with the place of record i, the first with the
+-- key, or with none.
+module _ (file : List ℕ) (h : BTreeV2Header) (f : Field) (x : ℕ) (out o : List ℕ) (c : Counts) (e : collected file h out ≡ fine c o) (field : HasKey h f)
+    (never : NeverFall o (recordSize h) f (c .records)) (some : noRecords (h .«total_records») (h .«num_records_in_root») ≡ false) where
+  abbrev finds : FindsFirst file h f x o (c .records)
+  finds = finds-first file h f x out o c e field never
+
+  pub found-cells : (i : ℕ) → First o (recordSize h) f (c .records) x i
+      → findCells file f x (descended file h f x) ≡ 0 ∷ 0 ∷ 0 ∷ (h .depth + 1) ∷ 1 ∷ getD (placesOf file h) i 0 ∷ []
+  found-cells i first = accepted-cells file h f x some (finds .accepts) ∙ rw (finds .first i first)
+
+  pub none-cells : None o (recordSize h) f (c .records) x
+      → findCells file f x (descended file h f x) ≡ 0 ∷ 0 ∷ 0 ∷ (h .depth + 1) ∷ 0 ∷ 0 ∷ []
+  none-cells none = accepted-cells file h f x some (finds .accepts) ∙ rw (finds .none none)
