@@ -109,7 +109,7 @@ module _ (file : List ℕ) (g : Geometry) where
           plain = next .plain;
         })
 
--- A descent that is refused: by the first of the nodes on it that does not pass, behind those read.
+-- By what a descent is refused: at a test, with nothing read, or past it; so by the first node on it that does not pass, behind those read.
 module _ (number : ℕ) (values : List ℕ) where
   past-test : (P : ℕ → Type 0) {a : Answer} (next : Descent) → Plain a → (a ≡ refused number values → P 0)
       → (a ≡ accepted [] → next .ends ≡ refused number values → P (next .nodes))

@@ -1,5 +1,5 @@
--- A node on the descent and the child taken in it: of a sound tree whose places never fall in key, the last bounding record with a key is the
--- first record with it.
+-- A node on the descent and the child taken in it: in a sound tree every node on the descent passes; and where the tree's places never fall
+-- in key, the last bounding record with a key is the first record with it.
 use mathlib.Core.Path.{_≡_, refl, ap, _∙_}
 use mathlib.Core.Logic.{⊎-elim}
 use mathlib.Core.Bool.{false}
@@ -109,7 +109,7 @@ module _ (file : List ℕ) (g : Geometry) (f : Field) (x : ℕ) where
         let s = rw (between-kids file g d a n (treeAt file g d) n 0) at sound in
         record { node = s .0 .passes; child = rw zero-add at (child-sound file g tests d a n n 0 (s .1) _ (bound-is a n .most)) }
 
-    -- So every test on the descent does, whatever the order of the keys.
+    -- So every node on the descent passes, whatever the order of the keys.
     pub descends : (d a n : ℕ) → SoundAt d a n → descent file g f x tests d a n .ends ≡ accepted []
     unfolding descent treeAt
     descends zero a n sound = rw (sound .passes)

@@ -107,8 +107,14 @@ module _ (file : List ℕ) (h : BTreeV2Header) (f : Field) (x : ℕ) where
   -- One with some, which collecting accepts.
   module _ (some : noRecords (h .«total_records») (h .«num_records_in_root») ≡ false) (field : numberField f rs ≡ true)
       (out o : List ℕ) (c : Counts) (e : collected file h out ≡ fine c o) where
+    abbrev tests : Tests
+    tests = collectTests file g
+
+    abbrev there : RecordsThere file g tests
+    there = collecting-there file g
+
     abbrev down : Descent
-    down = descent file g f x (collectTests file g) (h .depth) (h .«root_node_address») (h .«num_records_in_root»)
+    down = descent file g f x tests (h .depth) (h .«root_node_address») (h .«num_records_in_root»)
 
     places-are : places ≡ placesAt file g (h .depth) (h .«root_node_address») (h .«num_records_in_root»)
     unfolding placesOf
@@ -121,12 +127,6 @@ module _ (file : List ℕ) (h : BTreeV2Header) (f : Field) (x : ℕ) where
         past : (a : Answer) (r : Run) → ifPassed a noCounts out r ≡ fine c o → onPassed a down ≡ down
         past (accepted figures) r passes = refl
         past (refused number values) r passes = cc
-
-    abbrev tests : Tests
-    tests = collectTests file g
-
-    abbrev there : RecordsThere file g tests
-    there = collecting-there file g
 
     walked : Done file g tests there (h .depth) (h .«root_node_address») (h .«num_records_in_root») noCounts out c o
     walked = walk-done file g tests there (h .depth) _ _ noCounts out c o (rw zero-mul zero-le) (collected-fine file h out some c o e)
@@ -150,7 +150,7 @@ module _ (file : List ℕ) (h : BTreeV2Header) (f : Field) (x : ℕ) (out o : Li
   collecting-accepts =
       descended-by file h f x (λ r. r .ends ≡ accepted []) refl (λ some. accepts-some file h f x some (field some) out o c e)
 
--- The theorem.
+-- The theorem: document 02's sentence.
 pub finds-first : FindsInOrder
 finds-first file h f x out o c e field never =
     by-number file h f x o (c .records) (collecting-accepts file h f x out o c e field)

@@ -13,18 +13,18 @@ use Rattle.btree_v2_collect.specs.Collect.{collectTests}
 use Rattle.btree_v2_find.specs.Find.{bound, keyTest}
 use Rattle.btree_v2_find.specs.Sorted.{recordSize}
 
--- A node: its level, its place and its number of records.
+-- A node: its level, its address and its number of records.
 pub record NodeAt : Type 0 where
   pub level : ℕ
-  pub place : ℕ
+  pub address : ℕ
   pub records : ℕ
 
--- The nodes that lie on the descent from the node of level d at a with n records on, that node first, whatever their tests say: below each
--- node the child that its bounding record bounds.
+-- The nodes on the descent from the node of level d at a with n records, that node first and below each the child taken in it, whatever
+-- their tests say.
 module _ (file : List ℕ) (g : Geometry) (f : Field) (x : ℕ) where
   unfoldable pub nodesOn : ℕ → ℕ → ℕ → List NodeAt
-  nodesOn zero a n = record { level = 0; place = a; records = n } ∷ []
-  nodesOn (suc d) a n = record { level = suc d; place = a; records = n } ∷ atChild file g (nodesOn d) d a n (bound file g f x a n)
+  nodesOn zero a n = record { level = 0; address = a; records = n } ∷ []
+  nodesOn (suc d) a n = record { level = suc d; address = a; records = n } ∷ atChild file g (nodesOn d) d a n (bound file g f x a n)
 
 module _ (tests : Tests) where
   -- The test of a node: a leaf's or an internal node's, by its level.
@@ -33,7 +33,7 @@ module _ (tests : Tests) where
   testAt (suc d) a n = tests .internal d a n
 
   abbrev pub nodeTest : NodeAt → Answer
-  nodeTest t = testAt (t .level) (t .place) (t .records)
+  nodeTest t = testAt (t .level) (t .address) (t .records)
 
   -- Of a list of nodes i pass, and the next is refused by this number with these values.
   pub data RefusedAfter (number : ℕ) (values : List ℕ) : ℕ → List NodeAt → Type 0 where
@@ -41,8 +41,8 @@ module _ (tests : Tests) where
     below : {t : NodeAt} {ts : List NodeAt} {i : ℕ} → nodeTest t ≡ accepted [] → RefusedAfter number values i ts
         → RefusedAfter number values (1 + i) (t ∷ ts)
 
--- The refusal of a call behind i nodes read: that of a test before the root (8 or 16), of the key's field (17) or of a node on the descent.
--- What is tested before has passed.
+-- The refusal of a call behind i nodes: that of the tests before the root (8 or 16), of the key's field (17) or of a node on the descent.
+-- What is tested before it has passed.
 module _ (file : List ℕ) (h : BTreeV2Header) (f : Field) (x number : ℕ) (values : List ℕ) where
   pub data RefusedBy : ℕ → Type 0 where
     before-root : rootTest (recordSize h) (h .depth) ≡ refused number values → RefusedBy 0

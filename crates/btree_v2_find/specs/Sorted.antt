@@ -66,9 +66,9 @@ pub record FindsFirst (file : List ℕ) (h : BTreeV2Header) (f : Field) (x : ℕ
   pub only : answered file h f x ≡ [] → None o (recordSize h) f n x
   pub either : ((i : ℕ) × First o (recordSize h) f n x i) ⊎ None o (recordSize h) f n x
 
--- The sentence: where collecting accepts the file, with some output, and the records that it put out never fall in key, the answer is the
--- place in the file of the first record with the key that is sought, and none exactly where no record put out has it. (With a field that
--- the records have not, finding is refused by 17.)
+-- The sentence: where collecting, given output enough, accepts the file and the records that it puts out never fall in key, the answer is
+-- the place in the file of the first record with the key, and none exactly when no record put out has it. The key has to be a field of the
+-- records, where there are any; else finding is refused by 17.
 abbrev pub FindsInOrder : Type 0
 FindsInOrder =
     (file : List ℕ) (h : BTreeV2Header) (f : Field) (x : ℕ) (out o : List ℕ) (c : Counts)
