@@ -1,5 +1,5 @@
 -- The whole call: nothing to read, its refusals before the root, and the descent by the widths that the capacity table gives.
-use mathlib.Core.Path.{_≡_, sym, _∙_}
+use mathlib.Core.Path.{_≡_, refl, sym, _∙_}
 use mathlib.Core.Bool.{Bool, true, false}
 use mathlib.Core.List.{List, []}
 use Prim.Native.Nat.{ℕ}
@@ -45,6 +45,14 @@ module _ (file : List ℕ) (h : BTreeV2Header) (f : Field) (x : ℕ) where
       ≡ onPassed (rootTest (h .geometry .«record_size») (h .depth)) (onPassed (keyTest f (h .geometry .«record_size»)) fromRoot)
   unfolding descended
   descended-some e = rw e
+
+  -- Of every tree: of one without records, and of one with some.
+  pub descended-by : (P : Descent → Type 0) → P (ended (accepted [])) → (nothing ≡ false → P (descended file h f x)) → P (descended file h f x)
+  descended-by P none some = by nothing refl
+    where
+      by : (t : Bool) → nothing ≡ t → P (descended file h f x)
+      by true e = rw (descended-empty e) none
+      by false e = some e
 
   pub descended-root : RootSought h f → descended file h f x ≡ fromRoot
   unfolding keyTest

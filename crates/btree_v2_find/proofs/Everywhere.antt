@@ -2,13 +2,14 @@
 use mathlib.Core.Path.{_≡_, refl}
 use mathlib.Core.Bool.{Bool, true, false}
 use mathlib.Core.List.{List, [], _∷_, _++_}
-use Prim.Native.Nat.{ℕ, zero, suc, _+_, _≤_, _<_}
+use Prim.Native.Nat.{ℕ, zero, suc, _+_, _^_, _≤_, _<_}
 use native.Mathlib.Omega.{arith}
 use lib.Dec.{ltb}
-use lib.ListN.{length}
+use lib.ListN.{length, getD}
 use borrow.Author.Tests.{ltb-true}
 use Rattle.numbers.specs.Numbers.{pick}
-use Rattle.refusal.specs.Answer.{Answer, accepted, refused, ifAccepted}
+use Rattle.numbers.proofs.Numbers.{num-lt}
+use Rattle.refusal.specs.Answer.{Answer, accepted, refused, ifAccepted, cells}
 use Rattle.node_info.specs.declared.Geometry.{Geometry}
 use Rattle.field.specs.declared.Field.{Field}
 use Rattle.field.specs.Field.{numberField, numberAt}
@@ -21,10 +22,11 @@ use Rattle.btree_v2_collect.specs.Walk.{recordPlace}
 use Rattle.btree_v2_collect.specs.Collect.{collectTests}
 use Rattle.btree_v2_collect.proofs.Nodes.{record-there}
 use Rattle.btree_v2_collect.proofs.Tested.{collecting-there}
-use Rattle.btree_v2_find.specs.Find.{Descent, ended, onPassed, bound, bounding, descent, keyTest, descended, placeFound}
+use Rattle.btree_v2_find.specs.Find.{lastWith, Descent, ended, onPassed, bound, bounding, descent, keyTest, descended, placeFound, placeCells, findCells}
 use Rattle.btree_v2_find.specs.Sorted.{recordSize, answered}
-use Rattle.btree_v2_find.proofs.Calls.{descended-empty, descended-some}
-use Rattle.btree_v2_find.proofs.Keys.{AllOf, all-none, all-more, all-head, all-append, AtMostOne, no-place, NoneHas, last-is, last-none, last-only, last-has, last-one}
+use Rattle.btree_v2_find.specs.Refusals.{nodesOn, RefusedAfter, here, below, RefusedBy, before-root, at-key, at-node}
+use Rattle.btree_v2_find.proofs.Calls.{descended-empty, descended-some, descended-by}
+use Rattle.btree_v2_find.proofs.Keys.{AllOf, all-none, all-more, all-head, all-append, AtMostOne, no-place, one-place, NoneHas, last-is, last-none, last-only, last-has, last-one}
 
 -- The answer of a descent is one place, or none: where it is accepted, that of the last bounding record with the key.
 module _ (file : List ℕ) (f : Field) (x : ℕ) (r : Descent) where
@@ -35,6 +37,11 @@ module _ (file : List ℕ) (f : Field) (x : ℕ) (r : Descent) where
       by : (a : Answer) {places : List ℕ} → AtMostOne places → AtMostOne (ifAccepted a places [])
       by (accepted figures) h = h
       by (refused number values) h = no-place
+
+  -- Where it is refused, nothing is found.
+  pub refused-none : (number : ℕ) (values : List ℕ) → r .ends ≡ refused number values → placeFound file f x r ≡ []
+  unfolding placeFound
+  refused-none number values e = rw e
 
   module _ (fine : r .ends ≡ accepted []) where
     pub answer-last : (ps : List ℕ) (p : ℕ) (qs : List ℕ) → r .bounds ≡ ps ++ (p ∷ qs) → numberAt file f p ≡ x → NoneHas (numberAt file f) x qs
@@ -102,6 +109,28 @@ module _ (file : List ℕ) (g : Geometry) where
           plain = next .plain;
         })
 
+-- By what a descent is refused: at a test, with nothing read, or past it; so by the first node on it that does not pass, behind those read.
+module _ (number : ℕ) (values : List ℕ) where
+  past-test : (P : ℕ → Type 0) {a : Answer} (next : Descent) → Plain a → (a ≡ refused number values → P 0)
+      → (a ≡ accepted [] → next .ends ≡ refused number values → P (next .nodes))
+      → onPassed a next .ends ≡ refused number values → P (onPassed a next .nodes)
+  past-test P next accepts stops goes-on e = goes-on refl e
+  past-test P next (refuses k h) stops goes-on e = stops e
+
+  module _ (file : List ℕ) (g : Geometry) (f : Field) (x : ℕ) where
+    abbrev down : ℕ → ℕ → ℕ → Descent
+    down = descent file g f x (collectTests file g)
+
+    abbrev RefusedDown : ℕ → ℕ → ℕ → ℕ → Type 0
+    RefusedDown d a n i = RefusedAfter (collectTests file g) number values i (nodesOn file g f x d a n)
+
+    descent-refused : (d a n : ℕ) → down d a n .ends ≡ refused number values → RefusedDown d a n (down d a n .nodes)
+    unfolding descent collectTests nodesOn
+    descent-refused zero a n =
+        past-test (RefusedDown 0 a n) _ (leaf-plain file _ a n) here (λ passes e. let z : _≡_ {A = ℕ} 0 1 = cc in absurd (omega arith))
+    descent-refused (suc d) a n =
+        past-test (RefusedDown (suc d) a n) _ (internal-plain file _ _ _ a n) here (λ passes e. below passes (descent-refused d _ _ e))
+
 -- The call.
 module _ (file : List ℕ) (h : BTreeV2Header) (f : Field) (x : ℕ) where
   abbrev g : Geometry
@@ -111,21 +140,20 @@ module _ (file : List ℕ) (h : BTreeV2Header) (f : Field) (x : ℕ) where
   pub nodes-empty : noRecords (h .«total_records») (h .«num_records_in_root») ≡ true → descended file h f x ≡ ended (accepted [])
   nodes-empty = descended-empty file h f x
 
-  root-holds : noRecords (h .«total_records») (h .«num_records_in_root») ≡ false → Holds file g (h .depth) (descended file h f x)
+  key-plain : Plain (keyTest f (recordSize h))
   unfolding keyTest
+  key-plain = plain-or (numberField f (recordSize h)) (refuses 17 (omega arith)) accepts
+
+  root-holds : noRecords (h .«total_records») (h .«num_records_in_root») ≡ false → Holds file g (h .depth) (descended file h f x)
   root-holds some =
       rw (descended-some file h f x some)
       (holds-passed file g (h .depth) (rootTest (recordSize h) (h .depth)) _ (root-plain (recordSize h) (h .depth))
       (λ figures e.
-      holds-passed file g (h .depth) _ _ (plain-or (numberField f (recordSize h)) (refuses 17 (omega arith)) accepts)
+      holds-passed file g (h .depth) _ _ key-plain
       (λ figures e. descent-holds file g f x (h .depth) _ _)))
 
   by-root : (P : Descent → Type 0) → P (ended (accepted [])) → ((r : Descent) → Holds file g (h .depth) r → P r) → P (descended file h f x)
-  by-root P none some = by (noRecords (h .«total_records») (h .«num_records_in_root»)) refl
-    where
-      by : (t : Bool) → noRecords (h .«total_records») (h .«num_records_in_root») ≡ t → P (descended file h f x)
-      by true e = rw (nodes-empty e) none
-      by false e = some _ (root-holds e)
+  by-root P none some = descended-by file h f x P none (λ e. some _ (root-holds e))
 
   -- At most one node of each level is read, and exactly one where a tree with records is accepted.
   pub nodes-at-most : descended file h f x .nodes ≤ h .depth + 1
@@ -135,9 +163,34 @@ module _ (file : List ℕ) (h : BTreeV2Header) (f : Field) (x : ℕ) where
       → descended file h f x .nodes ≡ h .depth + 1
   nodes-accepted some = root-holds some .all
 
+  -- The call's six numbers: of an empty tree, and of one with records that is accepted.
+  pub empty-cells : noRecords (h .«total_records») (h .«num_records_in_root») ≡ true
+      → findCells file f x (descended file h f x) ≡ 0 ∷ 0 ∷ 0 ∷ 0 ∷ 0 ∷ 0 ∷ []
+  unfolding findCells cells placeFound lastWith
+  empty-cells e = rw (nodes-empty e)
+
+  pub accepted-cells : noRecords (h .«total_records») (h .«num_records_in_root») ≡ false → descended file h f x .ends ≡ accepted []
+      → findCells file f x (descended file h f x) ≡ 0 ∷ 0 ∷ 0 ∷ (h .depth + 1) ∷ placeCells (answered file h f x)
+  unfolding findCells cells
+  accepted-cells some fine = rw (fine, nodes-accepted some fine)
+
   -- Finding has no output, and is never refused for want of it.
   pub never-15 : (number : ℕ) (values : List ℕ) → descended file h f x .ends ≡ refused number values → number ≡ 15 → ⊥
   never-15 number values = never-by-15 (by-root (λ r. Plain (r .ends)) accepts (λ r t. t .plain))
+
+  -- A refusal is that of a test before the root, of the key's field or of a node on the descent.
+  pub refused-by : (number : ℕ) (values : List ℕ) → descended file h f x .ends ≡ refused number values
+      → RefusedBy file h f x number values (descended file h f x .nodes)
+  refused-by number values =
+      let P : ℕ → Type 0 = RefusedBy file h f x number values in
+      descended-by file h f x (λ r. r .ends ≡ refused number values → P (r .nodes))
+      (λ e. let z : _≡_ {A = ℕ} 0 1 = cc in absurd (omega arith))
+      (λ some.
+      rw (descended-some file h f x some)
+      (past-test number values P _ (root-plain (recordSize h) (h .depth)) before-root
+      (λ rooted.
+      past-test number values P _ key-plain (at-key rooted)
+      (λ keyed e. at-node rooted keyed (descent-refused number values file g f x (h .depth) _ _ e)))))
 
   -- Every bounding record is in the file; the one that is found has the key too.
   pub bounds-there : AllOf (λ p. p + recordSize h ≤ length file) (descended file h f x .bounds)
@@ -151,3 +204,12 @@ module _ (file : List ℕ) (h : BTreeV2Header) (f : Field) (x : ℕ) where
       by : (a : Answer) {places : List ℕ} → AllOf (FoundAt file (recordSize h) f x) places → AllOf (FoundAt file (recordSize h) f x) (ifAccepted a places [])
       by (accepted figures) all = all
       by (refused number values) all = all-none
+
+  -- A key that no field of its width holds is nowhere in a file of bytes.
+  pub key-too-large : 256 ^ (f .width) ≤ x → ((i : ℕ) → getD file i 0 < 256) → answered file h f x ≡ []
+  unfolding numberAt
+  key-too-large large bytes = by (no-more-than-one file f x (descended file h f x)) refl
+    where
+      by : {places : List ℕ} → AtMostOne places → answered file h f x ≡ places → places ≡ []
+      by no-place e = refl
+      by (one-place p) e = absurd (omega (arith, found-there p e .key, num-lt file (p + f .start) (f .width) bytes))

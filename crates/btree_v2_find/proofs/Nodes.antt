@@ -1,5 +1,5 @@
--- A node on the descent and the child taken in it: of a sound tree whose places never fall in key, the last bounding record with a key is the
--- first record with it.
+-- A node on the descent and the child taken in it: in a sound tree every node on the descent passes; and where the tree's places never fall
+-- in key, the last bounding record with a key is the first record with it.
 use mathlib.Core.Path.{_≡_, refl, ap, _∙_}
 use mathlib.Core.Logic.{⊎-elim}
 use mathlib.Core.Bool.{false}
@@ -16,7 +16,7 @@ use Rattle.node_info.specs.declared.Geometry.{Geometry}
 use Rattle.field.specs.declared.Field.{Field}
 use Rattle.field.specs.Field.{numberAt}
 use Rattle.btree_v2_collect.specs.Walk.{Tests, recordPlace}
-use Rattle.btree_v2_collect.specs.InFile.{atChild, treeAt, placesFrom, childrenPlaces, placesAt, Sound}
+use Rattle.btree_v2_collect.specs.InFile.{atChild, treeAt, placesFrom, childrenPlaces, placesAt, ChildSound, Sound}
 use Rattle.btree_v2_collect.proofs.InFile.{between-kids, child-sound}
 use Rattle.btree_v2_find.specs.Find.{oneOf, boundFrom, lastWith, bound, bounding, descent}
 use Rattle.btree_v2_find.proofs.Keys.{firstWith, one-nil, last-append, bound-from, Rising, split, first-after, first-up-to}
@@ -94,26 +94,38 @@ module _ (file : List ℕ) (g : Geometry) (f : Field) (x : ℕ) where
           })
           (lt-or-le (keyAt i) x)
 
-  -- Down from a node whose tree is sound.
+  -- Down from a node whose tree is sound: its test passes, and the tree of the child taken is sound.
   module _ (tests : Tests) where
-    pub record Descends (d a n : ℕ) : Type 0 where
-      pub ends : descent file g f x tests d a n .ends ≡ accepted []
-      pub last : lastWith key x (descent file g f x tests d a n .bounds) ≡ firstWith key x (placesAt file g d a n)
+    abbrev SoundAt : ℕ → ℕ → ℕ → Type 0
+    SoundAt d a n = Sound file g tests d (treeAt file g d a n) a
 
-    pub descends : (d a n : ℕ) → Sound file g tests d (treeAt file g d a n) a → Rising key (placesAt file g d a n) → Descends d a n
+    record Passes (d a n : ℕ) : Type 0 where
+      node : tests .internal d a n ≡ accepted []
+      child : let i = bound file g f x a n in ChildSound file g tests d a n (Sound file g tests d) (atChild file g (treeAt file g d) d a n i) i
+
+    passes : (d a n : ℕ) → SoundAt (suc d) a n → Passes d a n
+    unfolding treeAt
+    passes d a n sound =
+        let s = rw (between-kids file g d a n (treeAt file g d) n 0) at sound in
+        record { node = s .0 .passes; child = rw zero-add at (child-sound file g tests d a n n 0 (s .1) _ (bound-is a n .most)) }
+
+    -- So every node on the descent passes, whatever the order of the keys.
+    pub descends : (d a n : ℕ) → SoundAt d a n → descent file g f x tests d a n .ends ≡ accepted []
+    unfolding descent treeAt
+    descends zero a n sound = rw (sound .passes)
+    descends (suc d) a n sound = let s = passes d a n sound in rw (s .node) (descends d _ _ (s .child .node))
+
+    -- Where the places never fall in key, the last bounding record with a key is the first record with it.
+    pub last-first : (d a n : ℕ) → SoundAt d a n → Rising key (placesAt file g d a n)
+        → lastWith key x (descent file g f x tests d a n .bounds) ≡ firstWith key x (placesAt file g d a n)
     unfolding descent placesAt treeAt bound firstWith
-    descends zero a n sound rising =
+    last-first zero a n sound rising =
         let e : a + 6 ≡ recordPlace g a 0 = omega arith in
         let places = ap (placesFrom file g n) e ∙ leaf-places a n n 0 in
         let t = child-taken a 0 n (λ b k. []) n 0 (rw places at rising) in
-        record { ends = rw (sound .passes); last = rw (sound .passes, places, t .first, ← bounding-is a n, append-nil) }
-    descends (suc d) a n sound rising =
-        let s = rw (between-kids file g d a n (treeAt file g d) n 0) at sound in
-        let i = bound file g f x a n in
-        let child = rw zero-add at (child-sound file g tests d a n n 0 (s .1) i (bound-is a n .most)) in
+        rw (sound .passes, places, t .first, ← bounding-is a n, append-nil)
+    last-first (suc d) a n sound rising =
+        let s = passes d a n sound in
         let t = child-taken a d n (placesAt file g d) n 0 rising in
-        let down = descends d _ _ (child .node) (t .rising) in
-        record {
-          ends = rw (s .0 .passes) (down .ends);
-          last = rw (s .0 .passes, last-append key x (bounding file g f x a n) _, down .last, t .first, ← bounding-is a n);
-        }
+        let down = last-first d _ _ (s .child .node) (t .rising) in
+        rw (s .node, last-append key x (bounding file g f x a n) _, down, t .first, ← bounding-is a n)

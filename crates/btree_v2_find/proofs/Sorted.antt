@@ -17,18 +17,19 @@ use Rattle.field.specs.Field.{numberField, numberAt}
 use Rattle.field.proofs.Fields.{field-fits, number-same}
 use Rattle.read_checks.specs.Tests.{noRecords, rootTest}
 use Rattle.btree_v2_header.specs.declared.BTreeV2Header.{BTreeV2Header}
-use Rattle.btree_v2_collect.specs.Walk.{Counts, Run, fine, ifPassed, noCounts}
+use Rattle.btree_v2_collect.specs.Walk.{Counts, Run, fine, ifPassed, noCounts, Tests}
 use Rattle.btree_v2_collect.specs.InFile.{placesAt, recordsAt}
 use Rattle.btree_v2_collect.specs.Collect.{collectTests, collected}
-use Rattle.btree_v2_collect.proofs.InFile.{walk-done}
+use Rattle.btree_v2_collect.proofs.InFile.{RecordsThere, Done, walk-done}
 use Rattle.btree_v2_collect.proofs.Outcomes.{collected-empty, collected-root, collected-fine}
 use Rattle.btree_v2_collect.proofs.Places.{PutOut, put-out, put-each}
 use Rattle.btree_v2_collect.proofs.Tested.{collecting-there}
-use Rattle.btree_v2_find.specs.Find.{Descent, onPassed, lastWith, descent, keyTest, descended, placeFound}
-use Rattle.btree_v2_find.specs.Sorted.{keyOf, NeverFall, First, None, placesOf, recordSize, answered, FindsFirst}
-use Rattle.btree_v2_find.proofs.Calls.{descended-empty, descended-some}
+use Rattle.btree_v2_find.specs.Find.{Descent, onPassed, lastWith, descent, keyTest, descended, placeFound, findCells}
+use Rattle.btree_v2_find.specs.Sorted.{keyOf, NeverFall, First, None, placesOf, recordSize, HasKey, answered, FindsFirst, FindsInOrder}
+use Rattle.btree_v2_find.proofs.Calls.{descended-empty, descended-some, descended-by}
+use Rattle.btree_v2_find.proofs.Everywhere.{accepted-cells}
 use Rattle.btree_v2_find.proofs.Keys.{firstWith, all-from, first-is, first-none, rising-from}
-use Rattle.btree_v2_find.proofs.Nodes.{descends}
+use Rattle.btree_v2_find.proofs.Nodes.{descends, last-first}
 
 -- Some record is the first with the key, or none has it.
 module _ (o : List ℕ) (rs : ℕ) (f : Field) (x : ℕ) where
@@ -72,11 +73,10 @@ module _ (file : List ℕ) (h : BTreeV2Header) (f : Field) (x : ℕ) where
   record Answers (o : List ℕ) (n : ℕ) : Type 0 where
     put : PutOut file g places o n
     same : KeysSame o n
-    accepts : descended file h f x .ends ≡ accepted []
     place : answered file h f x ≡ firstWith key x places
 
-  by-number : (o : List ℕ) (n : ℕ) → Answers o n → FindsFirst file h f x o n
-  by-number o n a =
+  by-number : (o : List ℕ) (n : ℕ) → descended file h f x .ends ≡ accepted [] → Answers o n → FindsFirst file h f x o n
+  by-number o n accepts a =
       let many = a .put .many in
       let either = first-or-none o rs f x n in
       let first : (i : ℕ) → First o rs f n x i → answered file h f x ≡ getD places i 0 ∷ [] = λ i t.
@@ -86,7 +86,7 @@ module _ (file : List ℕ) (h : BTreeV2Header) (f : Field) (x : ℕ) where
         many = many;
         bytes = a .put .bytes;
         each = put-each file g places o n (a .put);
-        accepts = a .accepts;
+        accepts = accepts;
         first = first;
         none = λ t. a .place ∙ first-none key x places (all-from _ places (λ i l e. t i (omega arith) (a .same i (omega arith) ∙ e)));
         only = λ e. ⊎-elim (λ (t : (i : ℕ) × First o rs f n x i). absurd (cons≢nil (sym (first (t .0) (t .1)) ∙ e))) (λ none. none) either;
@@ -101,15 +101,20 @@ module _ (file : List ℕ) (h : BTreeV2Header) (f : Field) (x : ℕ) where
         record {
           put = rw empty (record { many = refl; bytes = rw zero-mul; whole = rw zero-mul });
           same = λ i l. absurd (omega arith);
-          accepts = rw (descended-empty file h f x empty);
           place = rw (descended-empty file h f x empty, empty);
         }
 
   -- One with some, which collecting accepts.
   module _ (some : noRecords (h .«total_records») (h .«num_records_in_root») ≡ false) (field : numberField f rs ≡ true)
       (out o : List ℕ) (c : Counts) (e : collected file h out ≡ fine c o) where
+    abbrev tests : Tests
+    tests = collectTests file g
+
+    abbrev there : RecordsThere file g tests
+    there = collecting-there file g
+
     abbrev down : Descent
-    down = descent file g f x (collectTests file g) (h .depth) (h .«root_node_address») (h .«num_records_in_root»)
+    down = descent file g f x tests (h .depth) (h .«root_node_address») (h .«num_records_in_root»)
 
     places-are : places ≡ placesAt file g (h .depth) (h .«root_node_address») (h .«num_records_in_root»)
     unfolding placesOf
@@ -123,28 +128,51 @@ module _ (file : List ℕ) (h : BTreeV2Header) (f : Field) (x : ℕ) where
         past (accepted figures) r passes = refl
         past (refused number values) r passes = cc
 
+    walked : Done file g tests there (h .depth) (h .«root_node_address») (h .«num_records_in_root») noCounts out c o
+    walked = walk-done file g tests there (h .depth) _ _ noCounts out c o (rw zero-mul zero-le) (collected-fine file h out some c o e)
+
+    accepts-some : descended file h f x .ends ≡ accepted []
+    accepts-some = rw descended-is (descends file g f x tests (h .depth) _ _ (walked .sound))
+
     answers-some : NeverFall o rs f (c .records) → Answers o (c .records)
     unfolding placeFound
     answers-some never =
-        let walk = collected-fine file h out some c o e in
-        let tests = collectTests file g in
-        let there = collecting-there file g in
-        let done = walk-done file g tests there (h .depth) _ _ noCounts out c o (rw zero-mul zero-le) walk in
-        let put = rw (← places-are) at (put-out file g tests there (h .depth) _ _ out c o done) in
+        let put = rw (← places-are) at (put-out file g tests there (h .depth) _ _ out c o walked) in
         let same = keys-same o (c .records) field put in
         let many = put .many in
         let rising = rising-from key places (λ i l. rw (← same i (omega arith), ← same (i + 1) (omega arith)) (never i (omega arith))) in
-        let d = descends file g f x tests (h .depth) _ _ (done .sound) (rw places-are at rising) in
-        record { put = put; same = same; accepts = rw descended-is (d .ends); place = rw (descended-is, d .ends, places-are) (d .last) }
+        let last = last-first file g f x tests (h .depth) _ _ (walked .sound) (rw places-are at rising) in
+        record { put = put; same = same; place = rw (accepts-some, descended-is, places-are) last }
 
--- The theorem. The key has to be a field of the records where there are any.
-pub finds-first : (file : List ℕ) (h : BTreeV2Header) (f : Field) (x : ℕ) (out o : List ℕ) (c : Counts) → collected file h out ≡ fine c o
-    → (noRecords (h .«total_records») (h .«num_records_in_root») ≡ false → numberField f (recordSize h) ≡ true)
-    → NeverFall o (recordSize h) f (c .records) → FindsFirst file h f x o (c .records)
-finds-first file h f x out o c e field never = by-number file h f x o (c .records) (by (noRecords (h .«total_records») (h .«num_records_in_root»)) refl)
+-- Finding accepts wherever collecting accepts and the key is a field of the records, whatever the order of their keys.
+module _ (file : List ℕ) (h : BTreeV2Header) (f : Field) (x : ℕ) (out o : List ℕ) (c : Counts) (e : collected file h out ≡ fine c o) (field : HasKey h f) where
+  pub collecting-accepts : descended file h f x .ends ≡ accepted []
+  collecting-accepts =
+      descended-by file h f x (λ r. r .ends ≡ accepted []) refl (λ some. accepts-some file h f x some (field some) out o c e)
+
+-- The theorem: document 02's sentence.
+pub finds-first : FindsInOrder
+finds-first file h f x out o c e field never =
+    by-number file h f x o (c .records) (collecting-accepts file h f x out o c e field)
+    (by (noRecords (h .«total_records») (h .«num_records_in_root»)) refl)
   where
     by : (t : Bool) → noRecords (h .«total_records») (h .«num_records_in_root») ≡ t → Answers file h f x o (c .records)
     by true empty =
         let run = sym (collected-empty file h out empty) ∙ e in
         let counts : noCounts ≡ c = cc in rw (← counts) (answers-none file h f x empty o)
     by false some = answers-some file h f x some (field some) out o c e never
+
+-- The call's six numbers in a tree with records: it accepts, behind one node of each level, with the place of record i, the first with the
+-- key, or with none.
+module _ (file : List ℕ) (h : BTreeV2Header) (f : Field) (x : ℕ) (out o : List ℕ) (c : Counts) (e : collected file h out ≡ fine c o) (field : HasKey h f)
+    (never : NeverFall o (recordSize h) f (c .records)) (some : noRecords (h .«total_records») (h .«num_records_in_root») ≡ false) where
+  abbrev finds : FindsFirst file h f x o (c .records)
+  finds = finds-first file h f x out o c e field never
+
+  pub found-cells : (i : ℕ) → First o (recordSize h) f (c .records) x i
+      → findCells file f x (descended file h f x) ≡ 0 ∷ 0 ∷ 0 ∷ (h .depth + 1) ∷ 1 ∷ getD (placesOf file h) i 0 ∷ []
+  found-cells i first = accepted-cells file h f x some (finds .accepts) ∙ rw (finds .first i first)
+
+  pub none-cells : None o (recordSize h) f (c .records) x
+      → findCells file f x (descended file h f x) ≡ 0 ∷ 0 ∷ 0 ∷ (h .depth + 1) ∷ 0 ∷ 0 ∷ []
+  none-cells none = accepted-cells file h f x some (finds .accepts) ∙ rw (finds .none none)

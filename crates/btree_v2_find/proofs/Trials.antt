@@ -15,6 +15,7 @@ use Rattle.btree_v2_header.specs.declared.BTreeV2Header.{BTreeV2Header}
 use Rattle.btree_v2_internal.specs.Internal.{pointerPlace, childAddress, childRecords}
 use Rattle.btree_v2_collect.specs.Walk.{Tests}
 use Rattle.btree_v2_find.specs.Find.{boundFrom, lastWith, Descent, ended, bound, bounding, descent, keyTest, descended, placeFound}
+use Rattle.btree_v2_find.specs.Refusals.{NodeAt, nodesOn}
 use Rattle.btree_v2_find.proofs.Keys.{firstWith}
 
 abbrev field : ℕ → ℕ → Field
@@ -68,14 +69,18 @@ abbrev down : ℕ → Descent
 down x = descent file sizes (field 0 1) x accepting 1 0 1
 
 -- The first 5 lies in the first leaf, behind its 4; the root's own 5 bounds too. 9 lies in the last leaf, where nothing in the root bounds; 6
--- is nowhere, though 9 bounds it.
+-- is nowhere, though 9 bounds it. The nodes on the descent are the root and the leaf taken.
 abbrev place : ℕ → List ℕ
 place x = placeFound file (field 0 1) x (down x)
 
+abbrev on : ℕ → List NodeAt
+on x = nodesOn file sizes (field 0 1) x 1 0 1
+
 descents : (down 5 ≡ record { ends = accepted []; bounds = 6 ∷ 20 ∷ []; nodes = 2 }) × (place 5 ≡ 20 ∷ [])
     × (down 9 ≡ record { ends = accepted []; bounds = 28 ∷ []; nodes = 2 }) × (place 9 ≡ 28 ∷ []) × (down 6 ≡ down 9) × (place 6 ≡ [])
-unfolding descent bounding bound boundFrom numberAt num unle pointerPlace childAddress childRecords countWidth totalWidth width leastFrom leafCapacity placeFound lastWith
-descents = (refl, refl, refl, refl, refl, refl)
+    × (on 5 ≡ record { level = 1; address = 0; records = 1 } ∷ record { level = 0; address = 13; records = 2 } ∷ []) × (on 6 ≡ on 9)
+unfolding nodesOn descent bounding bound boundFrom numberAt num unle pointerPlace childAddress childRecords countWidth totalWidth width leastFrom leafCapacity placeFound lastWith
+descents = (refl, refl, refl, refl, refl, refl, refl, refl)
 
 -- Before the root: an empty tree is accepted whatever the field; 17 comes after 8 and 16.
 abbrev header : ℕ → ℕ → ℕ → BTreeV2Header
