@@ -28,7 +28,7 @@ pub struct Found {
     pub place: Place,
 }
 
-// The first record of a node whose key is not below the one sought; the node's count where there is none.
+// The number of the first record of a node whose key is not below the one sought; the node's count where there is none.
 fn bound(file: &[u8], geometry: Geometry, node: Node, key: Field, sought: u64) -> u16
     requires { ⌜ Searched (now file) geometry key (node .address) (node .records) ⌝ }
     ensures { λ r. ⌜ r ≡ bound (now (file .entry)) geometry key sought (node .address) (node .records) ⌝ }
