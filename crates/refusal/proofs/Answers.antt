@@ -10,7 +10,7 @@ use lib.ListN.{length, take, replicate, length-take, length-append, length-repli
 use lib.Seq.{take-append-add, take-at}
 use Rattle.refusal.specs.declared.Refusal.{Refusal}
 use Rattle.refusal.specs.declared.Refusal.the-variants.{UnexpectedEof, InvalidBTreeV2Signature, InvalidBTreeV2Version, InvalidOffsetSize, InvalidLengthSize, ChecksumMismatch, InvalidNodeSize, ZeroRecordSize, TooManyRecords}
-use Rattle.refusal.specs.declared.Refusal.the-variants.{LevelHoldsNone, SubtreeTooThin, RecordBufferLength, CountAboveLengthSize, AddressAboveOffsetSize, OutputTooShort, DepthAboveLimit, InvalidKeyField}
+use Rattle.refusal.specs.declared.Refusal.the-variants.{LevelHoldsNone, SubtreeTooThin, RecordBufferLength, CountAboveLengthSize, AddressAboveOffsetSize, OutputTooShort, DepthAboveLimit, InvalidKeyField, BaseBeyondFile}
 use Rattle.refusal.specs.declared.Verdict.{Verdict}
 use Rattle.refusal.specs.declared.Verdict.the-variants.{Accepted, Refused}
 
@@ -60,6 +60,7 @@ refused-is (AddressAboveOffsetSize start) = (_, _, refl, lit≤ tt, lit< tt)
 refused-is (OutputTooShort size) = (_, _, refl, lit≤ tt, lit< tt)
 refused-is (DepthAboveLimit depth) = (_, _, refl, lit≤ tt, lit< tt)
 refused-is InvalidKeyField = (_, _, refl, lit≤ tt, lit< tt)
+refused-is BaseBeyondFile = (_, _, refl, lit≤ tt, lit< tt)
 
 pub cells-more : (r : Refusal) (m : ℕ) → cells (m + 3) (refusalOf r) ≡ cells 3 (refusalOf r) ++ replicate m 0
 cells-more r m = let s = refused-is r in rw (s .2) (more m (s .0) (s .1) (s .3))
