@@ -49,3 +49,8 @@ module _ (file : List ℕ) (h : BTreeV2Header) (out : List ℕ) (v : Verdict) (c
       → Ends (collectedAt file h out) r exit
   ends-part e r exit read =
       rw (collected-within h out file (base-within file (h .base) v code e)) (rw (lent-part file (h .base)) at read)
+
+-- With base 0 the call ends as before.
+pub ends-whole : (file : List ℕ) (h : BTreeV2Header) (out : List ℕ) (r : Collected) (exit : List ℕ) → h .base ≡ 0
+    → Ends (collectedAt file h out) r exit → Ends (collected file h out) r exit
+ends-whole file h out r exit e ends = rw (collected-whole h out file e) at ends

@@ -4,7 +4,8 @@ use mathlib.Core.List.{List, [], _++_}
 use Prim.Native.Nat.{ℕ, _-_, _≤_, _<_}
 use lib.ListN.{length, drop}
 use Rattle.numbers.specs.Numbers.{part}
-use Rattle.refusal.specs.Answer.{Answer, accepted, refused, refusalOf, verdictOf}
+use Rattle.refusal.specs.Answer.{Answer, accepted, refused, refusalOf, verdictOf, cells}
+use Rattle.refusal.proofs.Answers.{cells-zero}
 use Rattle.refusal.specs.declared.Refusal.{Refusal}
 use Rattle.refusal.specs.declared.Verdict.{Verdict}
 use Rattle.refusal.specs.declared.Verdict.the-variants.{Accepted, Refused}
@@ -30,6 +31,14 @@ module _ (file : List ℕ) (base o ow lw : ℕ) where
 pub parsed-whole : (file : List ℕ) (o ow lw : ℕ) → parsedAt file 0 o ow lw ≡ carrying 0 (parsed file o ow lw)
 unfolding parsedAt
 parsed-whole file o ow lw = on-part-whole _ _ file
+
+-- So are the numbers of an answer that has no place for the base, or one in which it is 0.
+pub cells-whole : (k : ℕ) (file : List ℕ) (o ow lw : ℕ) → cells k (parsedAt file 0 o ow lw) ≡ cells k (parsed file o ow lw)
+cells-whole k file o ow lw = rw (parsed-whole file o ow lw) (carried (parsed file o ow lw))
+  where
+    carried : (a : Answer) → cells k (carrying 0 a) ≡ cells k a
+    carried (accepted figures) = cells-zero k figures
+    carried (refused number values) = refl
 
 -- A block in front changes nothing.
 pub parsed-behind : (block file : List ℕ) (o ow lw : ℕ)
