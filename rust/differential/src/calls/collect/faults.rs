@@ -1,14 +1,22 @@
 //! Faults of a collecting, for the suite to notice.
 
 use super::Collecting;
+use crate::calls::based::{self, OfTree};
 use crate::calls::Fault;
 
 pub fn faults<'a>() -> Vec<Fault<Collecting<'a>>> {
+    let mut faults = based::faults_of_trees();
+    faults.extend(of_records());
+    faults
+}
+
+/// Records, counts and figures.
+fn of_records<'a>() -> Vec<Fault<Collecting<'a>>> {
     vec![
         Fault::<Collecting>::both(
             "figures of the whole file for a node's part",
             |case, answer, _| {
-                if answer[0] == 1 && case.tree.depth > 2 {
+                if answer[0] == 1 && case.tree().depth > 2 {
                     answer[2] += 1;
                 }
             },
@@ -40,7 +48,7 @@ pub fn faults<'a>() -> Vec<Fault<Collecting<'a>>> {
             "records put out before a refusal",
             |case, answer, [output]| {
                 if answer[0] == 6 && answer[3] > 0 {
-                    output[usize::from(case.tree.geometry.record_size) - 1] ^= 1;
+                    output[case.record_size() - 1] ^= 1;
                 }
             },
         ),
