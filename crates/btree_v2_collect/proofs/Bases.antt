@@ -1,18 +1,22 @@
 -- Collecting with a base: the whole call, base 0, a block in front, and a base beyond the file.
 use mathlib.Core.Path.{_≡_, refl, sym, _∙_}
+use mathlib.Core.Bool.{Bool, true, false}
 use mathlib.Core.List.{List, [], _++_}
 use Prim.Native.Nat.{ℕ, _-_, _≤_, _<_}
+use native.Mathlib.Omega.{arith}
+use lib.Dec.{leb}
 use lib.ListN.{length, drop}
+use borrow.Author.Tests.{leb-true}
 use Rattle.numbers.specs.Numbers.{part}
-use Rattle.refusal.specs.Answer.{verdictOf}
+use Rattle.refusal.specs.Answer.{orElse, verdictOf}
 use Rattle.refusal.specs.declared.Refusal.{Refusal}
 use Rattle.refusal.specs.declared.Verdict.{Verdict}
 use Rattle.refusal.specs.declared.Verdict.the-variants.{Accepted, Refused}
-use Rattle.read_checks.specs.Base.{baseTest}
+use Rattle.read_checks.specs.Base.{onPart, baseTest}
 use Rattle.read_checks.proofs.Base.{on-part-within, on-part-beyond, on-part-whole, on-part-behind, lent-part, base-within, base-beyond, refused-by-18}
 use Rattle.btree_v2_header.specs.Header.{withBase}
 use Rattle.btree_v2_header.specs.declared.BTreeV2Header.{BTreeV2Header}
-use Rattle.btree_v2_collect.specs.Walk.{stopped, noCounts}
+use Rattle.btree_v2_collect.specs.Walk.{Counts, fine, stopped, noCounts}
 use Rattle.btree_v2_collect.specs.Collect.{collected, collectedAt}
 use Rattle.btree_v2_collect.specs.Answers.{Ends}
 use Rattle.btree_v2_collect.specs.Collecting.{endedBy}
@@ -39,6 +43,20 @@ module _ (h : BTreeV2Header) (out : List ℕ) where
   pub collected-behind : (block file : List ℕ) → h .base ≡ length block → collectedAt (block ++ file) h out ≡ collected file h out
   unfolding collectedAt
   collected-behind block file e = rw (e, on-part-behind)
+
+-- A collecting that accepts has a base within the file, and accepts the part.
+pub record AcceptsPart (file : List ℕ) (h : BTreeV2Header) (out : List ℕ) (c : Counts) (o : List ℕ) : Type 0 where
+  pub within : h .base ≤ length file
+  pub part : collected (drop (h .base) file) h out ≡ fine c o
+
+pub accepts-part : (file : List ℕ) (h : BTreeV2Header) (out : List ℕ) (c : Counts) (o : List ℕ) → collectedAt file h out ≡ fine c o → AcceptsPart file h out c o
+unfolding collectedAt onPart
+accepts-part file h out c o e = by (leb (h .base) (length file)) refl e
+  where
+    by : (t : Bool) → leb (h .base) (length file) ≡ t → orElse t (stopped 18 [] noCounts out) (collected (drop (h .base) file) h out) ≡ fine c o
+        → AcceptsPart file h out c o
+    by true is f = record { within = leb-true (h .base) (length file) is; part = f }
+    by false is f = let z : _≡_ {A = ℕ} 0 1 = cc in absurd (omega arith)
 
 -- Collecting in a part goes by the header's other figures.
 pub collected-based : (file : List ℕ) (h : BTreeV2Header) (base : ℕ) (out : List ℕ) → collected file (withBase base h) out ≡ collected file h out

@@ -12,8 +12,13 @@ use Rattle.read_checks.specs.Base.{baseTest}
 use Rattle.read_checks.proofs.Base.{on-part-within, on-part-beyond, on-part-whole, on-part-behind, lent-part, base-within, base-beyond, refused-by-18}
 use Rattle.field.specs.declared.Field.{Field}
 use Rattle.btree_v2_header.specs.declared.BTreeV2Header.{BTreeV2Header}
+use Rattle.btree_v2_collect.specs.Walk.{Counts, fine}
+use Rattle.btree_v2_collect.specs.Collect.{collectedAt}
+use Rattle.btree_v2_collect.proofs.Bases.{accepts-part}
 use Rattle.btree_v2_find.specs.Find.{found, foundAt}
 use Rattle.btree_v2_find.specs.Answers.{foundCells}
+use Rattle.btree_v2_find.specs.Sorted.{NeverFall, recordSize, HasKey, FindsFirst}
+use Rattle.btree_v2_find.proofs.Sorted.{finds-first}
 use Rattle.btree_v2_find.specs.Descending.{EndedBy}
 use Rattle.btree_v2_find.specs.declared.Found.{Found}
 
@@ -49,3 +54,13 @@ module _ (file : List ℕ) (h : BTreeV2Header) (f : Field) (x : ℕ) (v : Verdic
       → foundCells r ≡ foundAt file h f x
   found-in-part e r is =
       rw (found-within h f x file (base-within file (h .base) v code e)) (rw (lent-part file (h .base)) at is)
+
+-- A tree in order behind a block: where collecting accepts, finding in the part has document 02's answer.
+pub finds-first-at : (file : List ℕ) (h : BTreeV2Header) (f : Field) (x : ℕ) (out o : List ℕ) (c : Counts) → collectedAt file h out ≡ fine c o
+    → HasKey h f → NeverFall o (recordSize h) f (c .records) → FindsFirst (drop (h .base) file) h f x o (c .records)
+finds-first-at file h f x out o c e = finds-first (drop (h .base) file) h f x out o c (accepts-part file h out c o e .part)
+
+-- And finding in the file is finding in the part.
+pub found-in-order : (file : List ℕ) (h : BTreeV2Header) (f : Field) (x : ℕ) (out o : List ℕ) (c : Counts) → collectedAt file h out ≡ fine c o
+    → foundAt file h f x ≡ found (drop (h .base) file) h f x
+found-in-order file h f x out o c e = found-within h f x file (accepts-part file h out c o e .within)
