@@ -40,8 +40,8 @@ pub fn some(length: usize, random: &mut Random) -> impl Iterator<Item = u64> {
     any.into_iter().chain(limits).chain(huge(any[0]))
 }
 
-/// Huge bases: those that come to one in the file where they are cut to 32 bits, or where a place in
-/// the file is added to them modulo 2^64, and the largest.
+/// Huge bases: those that come to one in the file where they are cut to 32 bits, or where a place
+/// in the file is added to them modulo 2^64, and the largest.
 fn huge(own: u64) -> [u64; 3] {
     [(1 << 32) + own, u64::MAX - own, u64::MAX]
 }
