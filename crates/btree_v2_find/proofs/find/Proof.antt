@@ -11,6 +11,6 @@ find-spec =
     (tie.spec
     (λ c κs. search needs) (λ c. search needs) (λ c. search needs) (λ c κs. search needs)
     (λ c. search base-refused)
-    (λ c. search base-within) (λ c. search base-within)
+    (λ c. search (needs, base-within)) (λ c. search (needs, base-within))
     (λ c. search needs) (λ c κs. search needs)
     (λ c. search found-in-part))

@@ -11,6 +11,6 @@ check-view-spec =
     (tie.spec
     (λ c κs. search needs) (λ c. search needs) (λ c. search needs)
     (λ c. search look-beyond)
-    (λ c. search base-within) (λ c. search base-within)
+    (λ c. search (needs, base-within)) (λ c. search (needs, base-within))
     (λ c. search needs) (λ c κs. search needs)
     (λ c. search look-within))

@@ -11,6 +11,6 @@ collect-btree-v2-records-spec =
     (tie.spec
     (λ c κs. search needs) (λ c. search needs) (λ c. search needs) (λ c κs. search needs)
     (λ c. search ends-beyond)
-    (λ c. search base-within) (λ c. search base-within)
+    (λ c. search (needs, base-within)) (λ c. search (needs, base-within))
     (λ c. search needs) (λ c κs. search needs) (λ c. search needs)
     (λ c. search ends-part))

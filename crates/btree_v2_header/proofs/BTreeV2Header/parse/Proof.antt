@@ -12,6 +12,6 @@ parse-spec =
     (λ c κs. search needs) (λ c. search needs)
     (λ c. search parses-beyond)
     (λ c. search needs)
-    (λ c. search base-within) (λ c. search base-within)
+    (λ c. search (needs, base-within)) (λ c. search (needs, base-within))
     (λ c. search needs) (λ c κs. search needs)
     (λ c. search parses-part))
