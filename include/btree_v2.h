@@ -54,7 +54,9 @@ enum btree_v2_refusal {
     /* The depth is above 32 [depth]. */
     BTREE_V2_DEPTH_ABOVE_LIMIT = 16,
     /* The key's field has not 1 to 8 bytes, or runs past the record's end. */
-    BTREE_V2_WRONG_KEY_FIELD = 17
+    BTREE_V2_WRONG_KEY_FIELD = 17,
+    /* The base is beyond the file's length. */
+    BTREE_V2_BASE_BEYOND_FILE = 18
 };
 
 /* The levels that a capacity table has: 0, that of the leaves, to 32. */
@@ -117,6 +119,24 @@ enum {
 void btree_v2_parse(const uint8_t *file, size_t file_length, uint64_t offset, uint8_t offset_size,
                     uint8_t length_size, uint64_t answer[BTREE_V2_PARSE_PLACES]);
 
+/* The place that the answer of btree_v2_parse_at has beside those of btree_v2_parse's. */
+enum { BTREE_V2_PARSE_BASE = 8, BTREE_V2_PARSE_AT_PLACES = 9 };
+
+/*
+ * The functions whose names end in _at read a file that has a block of other bytes in front, as
+ * long as the base. Of the part of the file from the base on they answer what the function of the
+ * same name without _at answers of a file that is this part: places and addresses count from the
+ * base, and so do both figures of BTREE_V2_FILE_ENDS_EARLY. A base beyond the file's length is
+ * refused, before all else, by 18; one that is the file's length is not. With base 0 both answer
+ * the same.
+ *
+ * This one reads the header at `offset` of that part. The base stands behind the header's figures,
+ * for the functions that take them. Refusals: 18, then 1 to 6.
+ */
+void btree_v2_parse_at(const uint8_t *file, size_t file_length, uint64_t base, uint64_t offset,
+                       uint8_t offset_size, uint8_t length_size,
+                       uint64_t answer[BTREE_V2_PARSE_AT_PLACES]);
+
 /* Places of the answer of btree_v2_collect: counts that are given in a refused call too. */
 enum {
     BTREE_V2_COLLECT_RECORDS = 3,          /* records put out */
@@ -137,6 +157,24 @@ void btree_v2_collect(const uint8_t *file, size_t file_length, uint8_t tree_type
                       uint8_t offset_size, uint8_t *output, size_t output_length,
                       uint64_t answer[BTREE_V2_COLLECT_PLACES]);
 
+/*
+ * The figures of a header: places 1 to 7 of btree_v2_parse's answer, and the base behind them,
+ * places 1 to 8 of btree_v2_parse_at's; so `answer + BTREE_V2_PARSE_TREE_TYPE` can be handed over
+ * as it is. A number above its field's range counts modulo 2^8 (tree type), 2^32 (node size), 2^16
+ * (record size), 2^16 (depth), 2^64 (root address), 2^16 (root's records), 2^64 (records in all),
+ * 2^64 (base).
+ */
+enum { BTREE_V2_HEADER_FIGURES = 7, BTREE_V2_HEADER_AT_FIGURES = 8 };
+
+/*
+ * The same from the header's base on. Refusals: 18, for a tree without records too, then those of
+ * btree_v2_collect.
+ */
+void btree_v2_collect_at(const uint8_t *file, size_t file_length,
+                         const uint64_t header[BTREE_V2_HEADER_AT_FIGURES], uint8_t offset_size,
+                         uint8_t *output, size_t output_length,
+                         uint64_t answer[BTREE_V2_COLLECT_PLACES]);
+
 /* Places of the answer of btree_v2_leaf_record. */
 enum { BTREE_V2_LEAF_RECORD_LENGTH = 1, BTREE_V2_LEAF_RECORD_PLACES = 3 };
 
@@ -150,13 +188,11 @@ void btree_v2_leaf_record(const uint8_t *file, size_t file_length, uint64_t addr
                           uint16_t record_size, uint64_t index, uint8_t *output,
                           size_t output_length, uint64_t answer[BTREE_V2_LEAF_RECORD_PLACES]);
 
-/*
- * The figures of a header: places 1 to 7 of btree_v2_parse's answer, so that
- * `answer + BTREE_V2_PARSE_TREE_TYPE` can be handed over as it is. A number above its field's range
- * counts modulo 2^8 (tree type), 2^32 (node size), 2^16 (record size), 2^16 (depth), 2^64 (root
- * address), 2^16 (root's records), 2^64 (records in all).
- */
-enum { BTREE_V2_HEADER_FIGURES = 7 };
+/* The same from the base on. Refusals in this order: 18, then those of btree_v2_leaf_record. */
+void btree_v2_leaf_record_at(const uint8_t *file, size_t file_length, uint64_t base,
+                             uint64_t address, uint16_t count, uint16_t record_size,
+                             uint64_t index, uint8_t *output, size_t output_length,
+                             uint64_t answer[BTREE_V2_LEAF_RECORD_PLACES]);
 
 /* Places of the answer of btree_v2_find; the nodes are given in a refused call too. */
 enum {
@@ -181,6 +217,15 @@ void btree_v2_find(const uint8_t *file, size_t file_length,
                    const uint64_t header[BTREE_V2_HEADER_FIGURES], uint8_t offset_size,
                    uint64_t key_start, uint64_t key_width, uint64_t key,
                    uint64_t answer[BTREE_V2_FIND_PLACES]);
+
+/*
+ * The same from the header's base on, from which the place counts, too. Refusals in this order: 18,
+ * for a tree without records too, then those of btree_v2_find.
+ */
+void btree_v2_find_at(const uint8_t *file, size_t file_length,
+                      const uint64_t header[BTREE_V2_HEADER_AT_FIGURES], uint8_t offset_size,
+                      uint64_t key_start, uint64_t key_width, uint64_t key,
+                      uint64_t answer[BTREE_V2_FIND_PLACES]);
 
 #ifdef __cplusplus
 }
