@@ -1,0 +1,154 @@
+//! Files with a block in front: the calls with a base, and those of before on the part behind the
+//! block.
+
+use std::cell::RefCell;
+use std::hint::black_box;
+
+use nuldrafon::raw;
+
+use crate::cases::{behind_a_block, Case, INPUT};
+use crate::find::{Sorted, WHOLE};
+use crate::plain;
+use crate::timing::{Contender, Section, PART};
+
+/// The bytes of the block, and what they are.
+const BLOCK: usize = 1_000;
+const OTHER: u8 = 0xa5;
+
+/// As the files are written.
+const OFFSET_SIZE: u8 = 8;
+const LENGTH_SIZE: u8 = 8;
+
+pub fn run() {
+    let title = "With a base behind a block of 1,000 bytes, and the part by itself, nanoseconds a call";
+    let inputs: Vec<&str> = ["call"].into_iter().chain(INPUT).collect();
+    let mut section = Section::new(title, &inputs);
+    let files: Vec<Behind> = behind_a_block().map(Behind::new).collect();
+    let of_100_000 = || files.iter().filter(|file| file.case.record_count == 100_000);
+    of_100_000().for_each(|file| file.parse(&mut section));
+    files.iter().for_each(|file| file.collect(&mut section));
+    files.iter().for_each(|file| file.find(&mut section));
+    of_100_000().for_each(|file| file.look(&mut section));
+}
+
+/// A file with a block in front, what its header says, the base last, and a tree of the part.
+struct Behind {
+    case: Case,
+    file: Vec<u8>,
+    figures: [u64; 8],
+    part: Sorted,
+}
+
+impl Behind {
+    fn new(case: Case) -> Behind {
+        let part = Sorted::new(&case);
+        let file = [&[OTHER; BLOCK][..], &part.file].concat();
+        let answer = raw::parse_at(&file, BLOCK as u64, 0, OFFSET_SIZE, LENGTH_SIZE);
+        let [0, figures @ ..] = answer else {
+            panic!("the header was written: {answer:?}");
+        };
+        Behind {
+            case,
+            file,
+            figures,
+            part,
+        }
+    }
+
+    /// The same memory as the file's, so that both contenders read the same bytes.
+    fn part(&self) -> &[u8] {
+        &self.file[BLOCK..]
+    }
+
+    /// Times a call with a base and the one of before, whose answers must be the same.
+    fn row<A: AsRef<[u64]>, B: AsRef<[u64]>>(
+        &self,
+        section: &mut Section,
+        call: &str,
+        mut with_base: impl FnMut() -> A,
+        mut part: impl FnMut() -> B,
+    ) {
+        let (answer, due) = (with_base(), part());
+        assert!(answer.as_ref().starts_with(due.as_ref()) && due.as_ref()[0] == 0);
+        let mut input = self.case.input();
+        input.insert(0, call.to_string());
+        let contenders = vec![
+            Contender::new("with a base", with_base),
+            Contender::new(PART, part),
+        ];
+        section.row(&input, 1, contenders);
+    }
+
+    fn parse(&self, section: &mut Section) {
+        let (file, part) = (&self.file[..], self.part());
+        let with_base =
+            || raw::parse_at(black_box(file), BLOCK as u64, 0, OFFSET_SIZE, LENGTH_SIZE);
+        let alone = || raw::parse(black_box(part), 0, OFFSET_SIZE, LENGTH_SIZE);
+        self.row(section, "parse", with_base, alone);
+    }
+
+    fn collect(&self, section: &mut Section) {
+        let (file, part, figures) = (&self.file[..], self.part(), &self.figures);
+        let [kind, ns, rs, depth, root, in_root, in_all, _] = self.figures;
+        // One output for both, so that neither has the better place in memory.
+        let output = RefCell::new(vec![0; (in_all * rs) as usize]);
+        let with_base = || {
+            let output = &mut output.borrow_mut()[..];
+            raw::collect_at(black_box(file), black_box(figures), OFFSET_SIZE, output)
+        };
+        let alone = || {
+            let output = &mut output.borrow_mut()[..];
+            raw::collect(
+                black_box(part),
+                kind as u8,
+                ns as u32,
+                rs as u16,
+                depth as u16,
+                root,
+                in_root as u16,
+                in_all,
+                OFFSET_SIZE,
+                output,
+            )
+        };
+        self.row(section, "collect", with_base, alone);
+    }
+
+    /// Each finds one key after another.
+    fn find(&self, section: &mut Section) {
+        let (file, part, figures) = (&self.file[..], self.part(), &self.figures);
+        let without_base = figures.first_chunk().expect("a base comes behind them");
+        let (start, width) = (WHOLE.start, WHOLE.width);
+        let keys = || self.part.keys.iter().copied().cycle();
+        let [mut keys, mut same_keys] = [keys(), keys()];
+        let with_base = || {
+            let key = keys.next().expect("the keys come again");
+            raw::find_at(black_box(file), black_box(figures), OFFSET_SIZE, start, width, key)
+        };
+        let alone = || {
+            let key = same_keys.next().expect("the keys come again");
+            raw::find(black_box(part), black_box(without_base), OFFSET_SIZE, start, width, key)
+        };
+        self.row(section, "find", with_base, alone);
+    }
+
+    /// The middle record of the longest leaf.
+    fn look(&self, section: &mut Section) {
+        let (file, part) = (&self.file[..], self.part());
+        let size = self.case.geometry.record_size;
+        let leaves = plain::leaves(part, &self.part.tree).into_iter();
+        let leaf = leaves.max_by_key(|leaf| leaf.len()).expect("a leaf is there");
+        let count = (leaf.len() - 6) as u16 / size;
+        let (at, index) = (leaf.start as u64, u64::from(count / 2));
+        let output = RefCell::new(vec![0; size.into()]);
+        let with_base = || {
+            let output = &mut output.borrow_mut()[..];
+            raw::leaf_record_at(black_box(file), BLOCK as u64, at, count, size, index, output)
+        };
+        let alone = || {
+            let output = &mut output.borrow_mut()[..];
+            raw::leaf_record(black_box(part), at, count, size, index, output)
+        };
+        self.row(section, "leaf_record", with_base, alone);
+    }
+}
