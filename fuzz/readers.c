@@ -40,9 +40,9 @@ struct loan {
     uint64_t *answer;
 };
 
-/* A call: by the shadow, and by the archive's functions without a base and with one; how many numbers
- * these answer, and whether the call has an output and mends checksums where that is asked for. How
- * often each answer was given to a base above 0, and to none; and how often a record was found. */
+/* A call: by the shadow, and by the archive's functions without a base and with one; how many
+ * numbers these answer; whether it has an output, and sets checksums right where that is asked for.
+ * How often each answer was given, without a base and with one above 0, and a record found. */
 struct call {
     const char *name;
     void (*shadow)(const struct given *, struct source, uint8_t *output, uint64_t *answer);
@@ -220,8 +220,8 @@ static void count(struct call *call, int with_base, const uint64_t *answer) {
     if (call == &calls[FIND]) call->found[with_base] += answer[BTREE_V2_FIND_FOUND];
 }
 
-/* Makes a call on the file with its base, and on the part from there on without one and with base 0;
- * the answer that is left is the part's. */
+/* Makes a call on the file with its base, if it has one, and on the part from there on without a
+ * base and with base 0. The answer that is left is the part's. */
 static void run(struct call *call, const struct given *g, struct source s,
                 uint64_t answer[MOST_PLACES]) {
     struct source part = part_of(s);

@@ -58,8 +58,8 @@ static int base_flag(size_t i, int flags) {
     return k % 8 == 7 ? BASE_AT_AN_END : k % 2 == 1 ? BASE_WITHIN : 0;
 }
 
-/* The front of an input: a tree's figures as the header reader answers them, the base too, the header
- * at 0, and a key. Every second key is sought by figures above their ranges. */
+/* The front of an input: a tree's figures and base as the header reader answers them, the header at
+ * 0, and a key. Every second key is sought by figures above their ranges. */
 static void front(const struct shape *s, const uint64_t header[BTREE_V2_PARSE_AT_PLACES],
                   uint64_t key, int flags) {
     input[AT_FLAGS] = (uint8_t)flags;

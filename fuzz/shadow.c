@@ -1,4 +1,5 @@
-/* A second reading of headers and trees in plain C, test by test as documents 01 and 02 list them. */
+/* A second reading of headers and trees in plain C, test by test as documents 01 and 02 list
+ * them. */
 #include "shadow.h"
 
 #include <string.h>

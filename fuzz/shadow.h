@@ -6,8 +6,8 @@
 #include <stddef.h>
 #include <stdint.h>
 
-/* A file and the base from which on it is read; `mend` asks that a checksum that differs be set right
- * in it, and is then no refusal. */
+/* A file and the base from which on it is read; `mend` asks that a checksum that differs be set
+ * right in it, and is then no refusal. */
 struct source {
     uint8_t *file;
     size_t length;

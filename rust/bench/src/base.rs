@@ -15,20 +15,28 @@ use crate::timing::{Contender, Section, PART};
 const BLOCK: usize = 1_000;
 const OTHER: u8 = 0xa5;
 
-/// As the files are written.
-const OFFSET_SIZE: u8 = 8;
-const LENGTH_SIZE: u8 = 8;
+/// The sizes of offsets and lengths that the files are written with.
+const OW: u8 = 8;
+const LW: u8 = 8;
 
 pub fn run() {
-    let title = "With a base behind a block of 1,000 bytes, and the part by itself, nanoseconds a call";
+    let title = "With a base, behind a block, and the part by itself, nanoseconds a call";
     let inputs: Vec<&str> = ["call"].into_iter().chain(INPUT).collect();
     let mut section = Section::new(title, &inputs);
     let files: Vec<Behind> = behind_a_block().map(Behind::new).collect();
-    let of_100_000 = || files.iter().filter(|file| file.case.record_count == 100_000);
-    of_100_000().for_each(|file| file.parse(&mut section));
-    files.iter().for_each(|file| file.collect(&mut section));
-    files.iter().for_each(|file| file.find(&mut section));
-    of_100_000().for_each(|file| file.look(&mut section));
+    let usual = |file: &&Behind| file.case.record_count == 100_000;
+    for file in files.iter().filter(usual) {
+        file.parse(&mut section);
+    }
+    for file in &files {
+        file.collect(&mut section);
+    }
+    for file in &files {
+        file.find(&mut section);
+    }
+    for file in files.iter().filter(usual) {
+        file.look(&mut section);
+    }
 }
 
 /// A file with a block in front, what its header says, the base last, and a tree of the part.
@@ -43,7 +51,7 @@ impl Behind {
     fn new(case: Case) -> Behind {
         let part = Sorted::new(&case);
         let file = [&[OTHER; BLOCK][..], &part.file].concat();
-        let answer = raw::parse_at(&file, BLOCK as u64, 0, OFFSET_SIZE, LENGTH_SIZE);
+        let answer = raw::parse_at(&file, BLOCK as u64, 0, OW, LW);
         let [0, figures @ ..] = answer else {
             panic!("the header was written: {answer:?}");
         };
@@ -81,9 +89,8 @@ impl Behind {
 
     fn parse(&self, section: &mut Section) {
         let (file, part) = (&self.file[..], self.part());
-        let with_base =
-            || raw::parse_at(black_box(file), BLOCK as u64, 0, OFFSET_SIZE, LENGTH_SIZE);
-        let alone = || raw::parse(black_box(part), 0, OFFSET_SIZE, LENGTH_SIZE);
+        let with_base = || raw::parse_at(black_box(file), BLOCK as u64, 0, OW, LW);
+        let alone = || raw::parse(black_box(part), 0, OW, LW);
         self.row(section, "parse", with_base, alone);
     }
 
@@ -94,7 +101,7 @@ impl Behind {
         let output = RefCell::new(vec![0; (in_all * rs) as usize]);
         let with_base = || {
             let output = &mut output.borrow_mut()[..];
-            raw::collect_at(black_box(file), black_box(figures), OFFSET_SIZE, output)
+            raw::collect_at(black_box(file), black_box(figures), OW, output)
         };
         let alone = || {
             let output = &mut output.borrow_mut()[..];
@@ -107,7 +114,7 @@ impl Behind {
                 root,
                 in_root as u16,
                 in_all,
-                OFFSET_SIZE,
+                OW,
                 output,
             )
         };
@@ -123,11 +130,18 @@ impl Behind {
         let [mut keys, mut same_keys] = [keys(), keys()];
         let with_base = || {
             let key = keys.next().expect("the keys come again");
-            raw::find_at(black_box(file), black_box(figures), OFFSET_SIZE, start, width, key)
+            raw::find_at(black_box(file), black_box(figures), OW, start, width, key)
         };
         let alone = || {
             let key = same_keys.next().expect("the keys come again");
-            raw::find(black_box(part), black_box(without_base), OFFSET_SIZE, start, width, key)
+            raw::find(
+                black_box(part),
+                black_box(without_base),
+                OW,
+                start,
+                width,
+                key,
+            )
         };
         self.row(section, "find", with_base, alone);
     }
@@ -137,13 +151,22 @@ impl Behind {
         let (file, part) = (&self.file[..], self.part());
         let size = self.case.geometry.record_size;
         let leaves = plain::leaves(part, &self.part.tree).into_iter();
-        let leaf = leaves.max_by_key(|leaf| leaf.len()).expect("a leaf is there");
+        let leaf = leaves.max_by_key(|leaf| leaf.len());
+        let leaf = leaf.expect("a leaf is there");
         let count = (leaf.len() - 6) as u16 / size;
         let (at, index) = (leaf.start as u64, u64::from(count / 2));
         let output = RefCell::new(vec![0; size.into()]);
         let with_base = || {
             let output = &mut output.borrow_mut()[..];
-            raw::leaf_record_at(black_box(file), BLOCK as u64, at, count, size, index, output)
+            raw::leaf_record_at(
+                black_box(file),
+                BLOCK as u64,
+                at,
+                count,
+                size,
+                index,
+                output,
+            )
         };
         let alone = || {
             let output = &mut output.borrow_mut()[..];

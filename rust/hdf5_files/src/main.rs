@@ -58,7 +58,11 @@ impl Done {
             self.real, self.grafts, self.grown, self.damages
         );
         // A run over no files would show nothing.
-        same("something done", self.grafts * self.grown * self.damages > 0, true)
+        same(
+            "something done",
+            self.grafts * self.grown * self.damages > 0,
+            true,
+        )
     }
 }
 
