@@ -249,8 +249,9 @@ static void run(struct call *call, const struct given *g, struct source s,
 static uint64_t base_of(const uint8_t *front, uint64_t length) {
     uint64_t given = number(front + AT_BASE, 8);
     const uint64_t ends[] = {length == 0 ? 0 : length - 1, length, length + 1, UINT64_MAX};
-    if ((front[AT_FLAGS] & BASE_AT_AN_END) != 0) return ends[given % 4];
-    return (front[AT_FLAGS] & BASE_WITHIN) != 0 ? given % (length + 1) : given;
+    int kind = front[AT_FLAGS] & BASE_KIND;
+    if (kind == BASE_AT_AN_END) return ends[given % 4];
+    return kind == BASE_AS_GIVEN ? given : given % (length + 1);
 }
 
 /* The figures of a tree: those of the header that was read, or those of the front; and what they

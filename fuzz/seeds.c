@@ -55,7 +55,7 @@ static uint8_t *begin(size_t i, int flags, size_t *block) {
 /* How the base is made: most often it is the block's length. */
 static int base_flag(size_t i, int flags) {
     size_t k = i + (size_t)flags;
-    return k % 8 == 7 ? BASE_AT_AN_END : k % 2 == 1 ? BASE_WITHIN : 0;
+    return k % 8 == 7 ? BASE_AT_AN_END : k % 4 == 3 ? BASE_AS_GIVEN : 0;
 }
 
 /* The front of an input: a tree's figures and base as the header reader answers them, the header at
