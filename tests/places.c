@@ -109,6 +109,33 @@ static void finds(const uint64_t figures[BTREE_V2_HEADER_FIGURES]) {
     refused(f, BTREE_V2_WRONG_KEY_FIELD, 0, 0);
 }
 
+/* The same tree behind a block. */
+static void reads_behind_a_block(void) {
+    enum { BLOCK = 9 };
+    static uint8_t site[BLOCK + sizeof file];
+    uint64_t h[BTREE_V2_PARSE_AT_PLACES], c[BTREE_V2_COLLECT_PLACES], f[BTREE_V2_FIND_PLACES],
+        r[BTREE_V2_LEAF_RECORD_PLACES];
+    uint8_t output[RECORDS * RECORD_SIZE];
+    const uint64_t *figures = h + BTREE_V2_PARSE_TREE_TYPE;
+    const uint64_t key = records[RECORD_SIZE] + 256u * records[RECORD_SIZE + 1];
+    memcpy(site + BLOCK, file, sizeof file);
+    btree_v2_parse_at(site, sizeof site, BLOCK, 0, WIDTH, WIDTH, h);
+    hold(h[BTREE_V2_REFUSAL], BTREE_V2_ACCEPTED, "parse behind a block");
+    hold(h[BTREE_V2_PARSE_ROOT_ADDRESS], START + 2 * NODE_SIZE, "root address from the base");
+    hold(h[BTREE_V2_PARSE_BASE], BLOCK, "base");
+    hold(figures[BTREE_V2_HEADER_AT_FIGURES - 1], BLOCK, "base of the figures");
+    btree_v2_collect_at(site, sizeof site, figures, WIDTH, output, sizeof output, c);
+    hold(c[BTREE_V2_COLLECT_RECORDS], RECORDS, "records put out behind a block");
+    hold(memcmp(output, records, sizeof output) == 0, 1, "records behind a block");
+    btree_v2_leaf_record_at(site, sizeof site, BLOCK, START, 2, RECORD_SIZE, 1, output,
+                            sizeof output, r);
+    hold(r[BTREE_V2_LEAF_RECORD_LENGTH], RECORD_SIZE, "length of a record behind a block");
+    btree_v2_find_at(site, sizeof site, figures, WIDTH, 0, 2, key, f);
+    hold(f[BTREE_V2_FIND_PLACE], START + 6 + RECORD_SIZE, "place from the base");
+    btree_v2_parse_at(site, sizeof site, sizeof site + 1, 0, WIDTH, WIDTH, h);
+    refused(h, BTREE_V2_BASE_BEYOND_FILE, 0, 0);
+}
+
 /* Reads what the last write left. */
 static void reads(void) {
     uint64_t h[BTREE_V2_PARSE_PLACES], c[BTREE_V2_COLLECT_PLACES], r[BTREE_V2_LEAF_RECORD_PLACES];
@@ -137,6 +164,7 @@ static void reads(void) {
     hold(r[BTREE_V2_LEAF_RECORD_LENGTH], RECORD_SIZE, "length of the record");
 
     finds(h + BTREE_V2_PARSE_TREE_TYPE);
+    reads_behind_a_block();
 
     btree_v2_parse(file, 3, 0, WIDTH, WIDTH, h);
     refused(h, BTREE_V2_FILE_ENDS_EARLY, 4, 3);

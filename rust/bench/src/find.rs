@@ -71,6 +71,7 @@ impl Sorted {
                 root_address: header.root_address,
                 root_records: header.root_records,
                 total_records: header.total_records,
+                base: header.base,
             },
             header,
             file,

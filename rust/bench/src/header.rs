@@ -40,7 +40,7 @@ fn time(section: &mut Section, header: &Header) {
     let file = &header.bytes[..];
     let (ow, lw) = (header.tree.geometry.offset_size, header.length_size);
     let read = nuldrafon::Header::parse(file, 0, ow, lw);
-    let figures = read.map(|header| header.figures());
+    let figures = read.map(|header| header.figures_at());
     assert_eq!(figures, Ok(header.tree.figures()));
     let mut contenders = vec![Contender::new("Rattle", move || {
         nuldrafon::Header::parse(black_box(file), 0, ow, lw)

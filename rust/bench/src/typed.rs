@@ -33,7 +33,7 @@ fn plan_and_parse(section: &mut Section, sample: &Sample) {
     section.row(&["plan".to_string()], 1, contenders);
     let contenders = vec![
         typed_by(|| Header::parse(black_box(file), at, ow, lw)),
-        as_it_is(|| raw::parse(black_box(file), at, ow, lw)),
+        as_it_is(|| raw::parse_at(black_box(file), 0, at, ow, lw)),
     ];
     section.row(&["parse".to_string()], 1, contenders);
 }
@@ -55,13 +55,8 @@ fn write_and_collect(section: &mut Section, sample: &Sample) {
     ];
     section.row(&["write".to_string()], 1, contenders);
 
-    let collecting = Collecting {
-        file: &sample.file,
-        tree: &sample.tree,
-        output_length: sample.records.len(),
-        room: 0,
-    };
-    let header = typed::header(collecting.tree);
+    let collecting = Collecting::of(&sample.file, &sample.tree, sample.records.len(), 0);
+    let header = typed::header(&sample.tree);
     let [[mut output], mut other] = [collecting.lend(), collecting.lend()];
     let contenders = vec![
         typed_by(|| black_box(header).collect(black_box(collecting.file), &mut output)),
@@ -73,12 +68,12 @@ fn write_and_collect(section: &mut Section, sample: &Sample) {
 
 fn find(section: &mut Section, sample: &Sample) {
     let (file, header) = (&sample.file[..], typed::header(&sample.tree));
-    let (field, figures, ow) = (Field::new(0, 8), header.figures(), USUAL.offset_size);
+    let (field, figures, ow) = (Field::new(0, 8), header.figures_at(), USUAL.offset_size);
     // Records in any order: whatever is found, both read the same nodes.
     let sought = u64::MAX / 2;
     let contenders = vec![
         typed_by(|| black_box(header).find(black_box(file), field, sought)),
-        as_it_is(|| raw::find(black_box(file), black_box(&figures), ow, 0, 8, sought)),
+        as_it_is(|| raw::find_at(black_box(file), black_box(&figures), ow, 0, 8, sought)),
     ];
     section.row(&["find".to_string()], 1, contenders);
 }
@@ -119,6 +114,7 @@ mod tests {
             root_address: leaf.len() as u64,
             root_records: 20,
             total_records,
+            base: 0,
         };
         ([leaf, root].concat(), tree)
     }

@@ -23,12 +23,14 @@ pub struct Tree {
     pub root_address: u64,
     pub root_records: u16,
     pub total_records: u64,
+    pub base: u64,
 }
 
 impl Tree {
     /// What figures come to: each counts modulo the numbers of its field.
-    pub fn of_figures(figures: [u64; 7], offset_size: u8) -> Tree {
-        let [tree_type, node_size, record_size, depth, root_address, root_records, total] = figures;
+    pub fn of_figures(figures: [u64; 8], offset_size: u8) -> Tree {
+        let [tree_type, node_size, record_size, depth, root_address, root_records, total, base] =
+            figures;
         Tree {
             tree_type: (tree_type % (1 << 8)) as u8,
             geometry: Geometry {
@@ -40,11 +42,12 @@ impl Tree {
             root_address,
             root_records: (root_records % (1 << 16)) as u16,
             total_records: total,
+            base,
         }
     }
 
-    /// The figures that the header reader answers.
-    pub fn figures(&self) -> [u64; 7] {
+    /// The figures that the header reader answers, the base behind the others.
+    pub fn figures(&self) -> [u64; 8] {
         [
             self.tree_type.into(),
             self.geometry.node_size.into(),
@@ -53,6 +56,7 @@ impl Tree {
             self.root_address,
             self.root_records.into(),
             self.total_records,
+            self.base,
         ]
     }
 }
@@ -73,6 +77,7 @@ impl Field {
 /// What is given to a look at a leaf, beside the file and the record's index.
 #[derive(Debug, Clone, Copy, PartialEq, Eq)]
 pub struct Leaf {
+    pub base: u64,
     pub address: u64,
     pub count: u16,
     pub record_size: u16,

@@ -8,7 +8,8 @@ use crate::{raw, Field, Header};
 /// What a find came to.
 #[derive(Debug, Clone, Copy, PartialEq, Eq, Hash)]
 pub struct Found {
-    /// The place in the file of the record's first byte; none where no record was found.
+    /// The place of the record's first byte, counted from the header's base; none where no record
+    /// was found.
     pub place: Option<u64>,
     /// The nodes that were read: one of each level, or 0 where the tree is empty.
     pub nodes: u64,
@@ -39,7 +40,8 @@ pub struct FindError {
 
 impl Header {
     /// Finds a record of the header's tree by its key, the number in the field `key` of the record.
-    /// It reads one node of each level, and no other.
+    /// It reads one node of each level, and no other, in the part of the file from the header's
+    /// base on.
     ///
     /// What is found, where the tree can be [collected](Self::collect) and its records, in that
     /// order, never fall in key: the first record with the key that is sought, and none exactly
@@ -48,12 +50,12 @@ impl Header {
     /// there is none such, and the answer is the last of these records, the leaf's included, that
     /// has the key sought. In a file whose keys fall, a record that has the key can be missed.
     ///
-    /// Refused before anything is read by [`Refusal::ZeroRecordSize`],
-    /// [`Refusal::DepthAboveLimit`] and [`Refusal::InvalidKeyField`], in this order; then by the
-    /// first of the nodes read that cannot be: [`Refusal::UnexpectedEof`],
-    /// [`Refusal::InvalidBTreeV2Signature`], [`Refusal::InvalidOffsetSize`],
-    /// [`Refusal::ChecksumMismatch`]. In a tree without records nothing is found, and nothing is
-    /// refused.
+    /// Refused before anything is read by [`Refusal::BaseBeyondFile`],
+    /// [`Refusal::ZeroRecordSize`], [`Refusal::DepthAboveLimit`] and [`Refusal::InvalidKeyField`],
+    /// in this order; then by the first of the nodes read that cannot be:
+    /// [`Refusal::UnexpectedEof`], [`Refusal::InvalidBTreeV2Signature`],
+    /// [`Refusal::InvalidOffsetSize`], [`Refusal::ChecksumMismatch`]. In a tree without records
+    /// nothing is found, and nothing is refused but a base beyond the file.
     ///
     /// ```
     /// use nuldrafon::{Field, Geometry, Header, Refusal, WriteRequest};
@@ -78,14 +80,20 @@ impl Header {
     /// assert_eq!(header.find(&file, bay, 115)?.place, None);
     /// let refused = header.find(&file, Field::new(0, 0), 114).unwrap_err();
     /// assert_eq!(refused.refusal, Refusal::InvalidKeyField);
+    ///
+    /// // The same behind a block of notes: the place counts from the base.
+    /// let with_notes = [b"site 7, decks 1 to 3", &file[..]].concat();
+    /// let header = Header::parse_at(&with_notes, 20, 0, 8, 8)?;
+    /// assert_eq!(header.find(&with_notes, bay, 114)?, found);
+    /// assert_eq!(with_notes[20 + place + 2..][..6], *b"sen114");
     /// # Ok(())
     /// # }
     /// ```
     #[inline]
     pub fn find(&self, file: &[u8], key: Field, sought: u64) -> Result<Found, FindError> {
         let offset_size = self.geometry.offset_size;
-        let figures = self.figures();
-        let answer = raw::find(file, &figures, offset_size, key.start, key.width, sought);
+        let figures = self.figures_at();
+        let answer = raw::find_at(file, &figures, offset_size, key.start, key.width, sought);
         let [_, _, _, nodes, found, place] = answer;
         match accepted(&answer) {
             Ok(()) => Ok(Found {

@@ -18,12 +18,15 @@ pub struct Header {
     pub geometry: Geometry,
     /// The level of the root; 0 where the root is a leaf.
     pub depth: u16,
-    /// The address of the root.
+    /// The address of the root, counted from the base.
     pub root_address: u64,
     /// The records in the root itself.
     pub root_records: u16,
     /// The records in all nodes, as the header has it. Collecting does not compare it.
     pub total_records: u64,
+    /// The base that the header was read with: the length of the block in front of the HDF5 part of
+    /// the file, 0 where there is none. The tree is read from there on.
+    pub base: u64,
 }
 
 /// What a collecting read and put out, refused or not. No count goes above 2^64 - 1.
@@ -108,9 +111,46 @@ impl Header {
         offset_size: u8,
         length_size: u8,
     ) -> Result<Header, Refusal> {
-        let answer = raw::parse(file, offset, offset_size, length_size);
+        Header::parse_at(file, 0, offset, offset_size, length_size)
+    }
+
+    /// Reads the header at `offset` of the part of the file from `base` on: that of a file with a
+    /// block of so many bytes in front. The header carries the base to the calls that read its tree.
+    ///
+    /// Refused by [`Refusal::BaseBeyondFile`], then as [`parse`](Self::parse) is of this part.
+    ///
+    /// ```
+    /// use nuldrafon::{Geometry, Header, Refusal, WriteRequest};
+    /// # fn main() -> Result<(), Box<dyn std::error::Error>> {
+    /// let notes = b"site 7, decks 1 to 3";
+    /// let records: Vec<u8> = (0..64).collect();
+    /// // The header comes first behind the notes, then the nodes. Their addresses do not count the
+    /// // notes.
+    /// let request = WriteRequest::new(5, Geometry::new(40, 8, 8), 8, 38, &records);
+    /// let written = request.write_to_vec()?;
+    /// let file = [&notes[..], &written.header, &written.image].concat();
+    ///
+    /// let header = Header::parse_at(&file, 20, 0, 8, 8)?;
+    /// assert_eq!((header.base, header.root_address), (20, 278));
+    /// assert_eq!(header.collect_to_vec(&file)?.records, records);
+    ///
+    /// let beyond = file.len() as u64 + 1;
+    /// assert_eq!(Header::parse_at(&file, beyond, 0, 8, 8), Err(Refusal::BaseBeyondFile));
+    /// # Ok(())
+    /// # }
+    /// ```
+    #[inline]
+    pub fn parse_at(
+        file: &[u8],
+        base: u64,
+        offset: u64,
+        offset_size: u8,
+        length_size: u8,
+    ) -> Result<Header, Refusal> {
+        let answer = raw::parse_at(file, base, offset, offset_size, length_size);
         accepted(&answer)?;
-        let [_, tree_type, node_size, record_size, depth, root_address, in_root, in_all] = answer;
+        let [_, tree_type, node_size, record_size, depth, root_address, in_root, in_all, base] =
+            answer;
         Ok(Header {
             tree_type: tree_type as u8,
             geometry: Geometry::new(node_size as u32, record_size as u16, offset_size),
@@ -118,11 +158,12 @@ impl Header {
             root_address,
             root_records: in_root as u16,
             total_records: in_all,
+            base,
         })
     }
 
     /// The header's figures in the order of the C functions: tree type, node size, record size,
-    /// depth, address of the root, records of the root, records in all.
+    /// depth, address of the root, records of the root, records in all. The base is left out.
     ///
     /// ```
     /// use nuldrafon::{Geometry, Header, Refusal, WriteRequest};
@@ -133,6 +174,22 @@ impl Header {
     /// # Ok::<(), Refusal>(())
     /// ```
     pub fn figures(&self) -> [u64; 7] {
+        let [figures @ .., _] = self.figures_at();
+        figures
+    }
+
+    /// The header's [figures](Self::figures), and the base behind them.
+    ///
+    /// ```
+    /// use nuldrafon::{Geometry, Header, Refusal, WriteRequest};
+    /// let request = WriteRequest::new(5, Geometry::new(40, 8, 8), 8, 4_096, &[7; 32]);
+    /// let file = [b"notes", &request.write_to_vec()?.header[..]].concat();
+    /// let header = Header::parse_at(&file, 5, 0, 8, 8)?;
+    /// assert_eq!(header.figures_at(), [5, 40, 8, 1, 4_176, 1, 4, 5]);
+    /// # Ok::<(), Refusal>(())
+    /// ```
+    #[inline]
+    pub fn figures_at(&self) -> [u64; 8] {
         [
             self.tree_type.into(),
             self.geometry.node_size.into(),
@@ -141,11 +198,13 @@ impl Header {
             self.root_address,
             self.root_records.into(),
             self.total_records,
+            self.base,
         ]
     }
 
     /// Puts the records of the header's tree end to end to the front of the output, in order. The
-    /// output's other bytes stay as they were.
+    /// output's other bytes stay as they were. The part of the file from the header's base on is
+    /// read.
     ///
     /// Where the header's tree was written by this crate and stands whole in the file, an output
     /// of [`total_records`](Self::total_records) times the record size is long enough, and every
@@ -156,7 +215,8 @@ impl Header {
     /// [`Refusal::UnexpectedEof`], [`Refusal::InvalidBTreeV2Signature`],
     /// [`Refusal::InvalidOffsetSize`], [`Refusal::ChecksumMismatch`]; by
     /// [`Refusal::OutputTooShort`] where the next record does not fit; and before anything is
-    /// read by [`Refusal::ZeroRecordSize`] and [`Refusal::DepthAboveLimit`]. The records before the
+    /// read by [`Refusal::BaseBeyondFile`], where the tree is empty, too, and by
+    /// [`Refusal::ZeroRecordSize`] and [`Refusal::DepthAboveLimit`]. The records before the
     /// refusal are in the output, and the error counts them.
     ///
     /// ```
@@ -181,18 +241,8 @@ impl Header {
     /// ```
     #[inline]
     pub fn collect(&self, file: &[u8], output: &mut [u8]) -> Result<Counts, CollectError> {
-        let answer = raw::collect(
-            file,
-            self.tree_type,
-            self.geometry.node_size,
-            self.geometry.record_size,
-            self.depth,
-            self.root_address,
-            self.root_records,
-            self.total_records,
-            self.geometry.offset_size,
-            output,
-        );
+        let offset_size = self.geometry.offset_size;
+        let answer = raw::collect_at(file, &self.figures_at(), offset_size, output);
         let [_, _, _, records, leaves, internal_nodes, internal_records] = answer;
         let counts = Counts {
             records,
@@ -209,16 +259,16 @@ impl Header {
     /// The records of the header's tree, in a buffer of their own.
     ///
     /// What is promised, of any header and any file: the answer is that of
-    /// [`collect`](Self::collect) into an output as long as the file, its records and counts or its
-    /// refusal and counts. That is room enough where every record has a place of its own in the
-    /// file. Where a file has nodes that several others point to, its tree can have more records:
-    /// then [`Refusal::OutputTooShort`] tells the file's length, and `collect` can be lent a longer
-    /// output.
+    /// [`collect`](Self::collect) into an output as long as the part of the file from the header's
+    /// base on, its records and counts or its refusal and counts. That is room enough where every
+    /// record has a place of its own in the file. Where a file has nodes that several others point
+    /// to, its tree can have more records: then [`Refusal::OutputTooShort`] tells the length of that
+    /// part, and `collect` can be lent a longer output.
     ///
     /// The header's record count is not relied on. Room is taken for as many records as it says,
-    /// but for no more bytes than the file has; where the tree turns out to have more, the room is
-    /// doubled, again up to the file's length, and the tree is collected anew. So the room is never
-    /// longer than the file, nor than the larger of what the count says and twice what the records
+    /// but for no more bytes than that part has; where the tree turns out to have more, the room is
+    /// doubled, again up to the part's length, and the tree is collected anew. So the room is never
+    /// longer than the part, nor than the larger of what the count says and twice what the records
     /// take. A tree with as many records as the count says, or fewer, is read once.
     ///
     /// ```
@@ -243,7 +293,7 @@ impl Header {
     /// ```
     pub fn collect_to_vec(&self, file: &[u8]) -> Result<Collected, CollectError> {
         let record_size = u64::from(self.geometry.record_size);
-        let most = file.len() as u64;
+        let most = (file.len() as u64).saturating_sub(self.base);
         let mut room = self.total_records.saturating_mul(record_size).min(most);
         loop {
             let mut records = vec![0; room as usize];

@@ -41,9 +41,34 @@ impl<'a> LeafView<'a> {
         count: u16,
         record_size: u16,
     ) -> Result<LeafView<'a>, Refusal> {
+        LeafView::new_at(file, 0, address, count, record_size)
+    }
+
+    /// The leaf at `address` of the part of the file from `base` on: a look at a file with a block
+    /// of so many bytes in front.
+    ///
+    /// Refused by [`Refusal::BaseBeyondFile`], then as [`new`](Self::new) is.
+    ///
+    /// ```
+    /// use nuldrafon::{Geometry, LeafView, Refusal, WriteRequest};
+    /// let request = WriteRequest::new(5, Geometry::new(40, 8, 8), 8, 0, b"record 0record 1");
+    /// let file = [b"notes", &request.write_to_vec()?.image[..]].concat();
+    /// let leaf = LeafView::new_at(&file, 5, 0, 2, 8)?;
+    /// assert_eq!(leaf.record(1), Some(&b"record 1"[..]));
+    /// assert_eq!(LeafView::new_at(&file, 46, 0, 2, 8), Err(Refusal::BaseBeyondFile));
+    /// # Ok::<(), Refusal>(())
+    /// ```
+    pub fn new_at(
+        file: &'a [u8],
+        base: u64,
+        address: u64,
+        count: u16,
+        record_size: u16,
+    ) -> Result<LeafView<'a>, Refusal> {
         // The last index there is has no record, so no output is needed.
-        accepted(&raw::leaf_record(
+        accepted(&raw::leaf_record_at(
             file,
+            base,
             address,
             count,
             record_size,
@@ -53,10 +78,11 @@ impl<'a> LeafView<'a> {
         let record_size = usize::from(record_size);
         let from = (address as usize).saturating_add(FRONT);
         let to = from.saturating_add(usize::from(count) * record_size);
-        // An accepted leaf's records are in the file.
-        let bytes = file.get(from..to).ok_or(Refusal::UnexpectedEof {
+        // An accepted leaf's records are in this part of the file.
+        let part = file.get(base as usize..).ok_or(Refusal::BaseBeyondFile)?;
+        let bytes = part.get(from..to).ok_or(Refusal::UnexpectedEof {
             expected: to as u64,
-            available: file.len() as u64,
+            available: part.len() as u64,
         })?;
         Ok(LeafView { bytes, record_size })
     }

@@ -14,14 +14,18 @@
 //! |---|---|
 //! | know how large a tree gets | [`Geometry::plan`] |
 //! | write a tree | [`WriteRequest::write_to_vec`], or [`WriteRequest::write`] into lent buffers |
-//! | read a header | [`Header::parse`] |
+//! | read a header | [`Header::parse`], or [`Header::parse_at`] behind a block |
 //! | read all records | [`Header::collect_to_vec`], or [`Header::collect`] into a lent buffer |
 //! | find one record by a number in it | [`Header::find`] |
-//! | look at the records of one leaf | [`LeafView::new`] |
+//! | look at the records of one leaf | [`LeafView::new`], or [`LeafView::new_at`] behind a block |
 //! | know what nodes hold at most | [`Geometry::node_info`] |
 //! | sum bytes as HDF5 does | [`jenkins_lookup3`] |
 //!
 //! What a call cannot do it refuses with a [`Refusal`], which says why in words and by number.
+//!
+//! A file can have a block of other bytes in front of its HDF5 part. The block's length is the base
+//! of the reads: a header that is read with a base carries it to the calls that read its tree, and
+//! all addresses and places count from the base.
 //!
 //! # Example
 //!

@@ -84,6 +84,12 @@ calls! {
         file: &[u8], offset: u64, offset_size: u8, length_size: u8,
     ) -> [u64; 8];
 
+    /// Reads the header at `offset` of the part of the file from `base` on. Answer: as that of
+    /// [`parse`] of this part, then the base, 0 where refused. Refusals: 18, then 1 to 6.
+    parse_at = btree_v2_parse_at(
+        file: &[u8], base: u64, offset: u64, offset_size: u8, length_size: u8,
+    ) -> [u64; 9];
+
     /// Puts the records of a tree in the file end to end into the output, whose other bytes stay.
     /// Answer: 0 or the refusal's number; its two values; and, refused or not, records put out,
     /// leaves read, internal nodes read, records put out that are from internal nodes. Refusals:
@@ -94,11 +100,25 @@ calls! {
         output: &mut [u8],
     ) -> [u64; 7];
 
+    /// [`collect`] of the part of the file from the header's base on. The header's figures are
+    /// those behind the 0 of [`parse_at`]'s answer; one above its field's range counts modulo 2^8,
+    /// 2^32, 2^16, 2^16, 2^64, 2^16, 2^64, 2^64. Refusals: 18, then those of [`collect`].
+    collect_at = btree_v2_collect_at(
+        file: &[u8], header: &[u64; 8], offset_size: u8, output: &mut [u8],
+    ) -> [u64; 7];
+
     /// Copies record `index` of the leaf at `address` of the file, which has `count` records, to
     /// the front of the output; the record is empty where `index` is not below `count`. Answer: 0,
     /// length of the record, 0. Refusals in this order: 8, 1, 2, 1, 6, 15; nothing is written then.
     leaf_record = btree_v2_leaf_record(
         file: &[u8], address: u64, count: u16, record_size: u16, index: u64, output: &mut [u8],
+    ) -> [u64; 3];
+
+    /// [`leaf_record`] of the part of the file from `base` on. Refusals in this order: 18, then
+    /// those of [`leaf_record`].
+    leaf_record_at = btree_v2_leaf_record_at(
+        file: &[u8], base: u64, address: u64, count: u16, record_size: u16, index: u64,
+        output: &mut [u8],
     ) -> [u64; 3];
 
     /// Finds a record by its key, the number of `key_width` bytes from `key_start` of the record
@@ -109,6 +129,13 @@ calls! {
     /// those of the nodes on the descent (1, 2, 4, 6).
     find = btree_v2_find(
         file: &[u8], header: &[u64; 7], offset_size: u8, key_start: u64, key_width: u64, key: u64,
+    ) -> [u64; 6];
+
+    /// [`find`] in the part of the file from the header's base on, with a header's figures as
+    /// [`collect_at`] takes them; the place counts from the base. Refusals in this order: 18, then
+    /// those of [`find`].
+    find_at = btree_v2_find_at(
+        file: &[u8], header: &[u64; 8], offset_size: u8, key_start: u64, key_width: u64, key: u64,
     ) -> [u64; 6];
 }
 

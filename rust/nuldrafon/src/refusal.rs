@@ -93,8 +93,8 @@ macro_rules! causes {
 
 // Named as in hdf5-pure where that has the cause.
 causes! {
-    /// The file ends early. For the records and pointers of an internal node both numbers count
-    /// from the node on.
+    /// The file ends early. Both numbers count from the base, and for the records and pointers of
+    /// an internal node from the node on.
     UnexpectedEof {
         /// The end that is needed, at most 2^64 - 1.
         expected: u64,
@@ -171,6 +171,11 @@ causes! {
     /// The key's field has not 1 to 8 bytes, or runs past the record's end.
     InvalidKeyField = 17:
         "the key's field has not 1 to 8 bytes, or runs past the record's end";
+
+    /// The base is beyond the file's length: the block that should stand in front of the HDF5 part
+    /// is longer than the file.
+    BaseBeyondFile = 18:
+        "the base is beyond the file's length";
 }
 
 impl Error for Refusal {}

@@ -9,7 +9,7 @@ use crate::model;
 /// values of the refusal, then zeros. It is shown where answers differ.
 pub trait Case: Display {
     /// An array of the answer's numbers.
-    type Answer: Copy + PartialEq + Debug + AsRef<[u64]>;
+    type Answer: Copy + PartialEq + Debug + AsRef<[u64]> + AsMut<[u64]>;
     /// An array of the buffers that the call may write to.
     type Lent: AsRef<[Vec<u8>]>;
 
@@ -21,6 +21,12 @@ pub trait Case: Display {
     fn typed(&self, lent: &mut Self::Lent) -> Self::Answer;
     /// The second implementation.
     fn model(&self, lent: &mut Self::Lent) -> Self::Answer;
+    /// Of a call that takes a base: the C function without one, given the part of the file from the
+    /// base on, where there is such a part.
+    fn without_base(&self, _lent: &mut Self::Lent) -> Option<Self::Answer> {
+        None
+    }
+
     /// How many bytes of each lent buffer an answer says were written, none where it is not said;
     /// those behind them stay.
     fn written(&self, _answer: &Self::Answer) -> Vec<usize> {

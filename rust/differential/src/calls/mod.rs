@@ -1,5 +1,6 @@
 //! The calls: what each suite compares, and the cases of each call in a module of its own.
 
+mod based;
 mod case;
 pub mod collect;
 pub mod find;
@@ -15,7 +16,7 @@ pub use case::{By, Case, Fault, ShownBy};
 
 /// A call, and what its suite is made of.
 pub struct Call {
-    /// The C function's name behind `btree_v2_`.
+    /// The C function's name behind `btree_v2_`; that of a call that takes a base ends in `_at`, too.
     pub name: &'static str,
     /// The numbers of the refusals that the call can give; the suite has to meet each.
     pub refusals: &'static [u64],
@@ -112,9 +113,13 @@ pub static CALLS: &[Call] = &[
     },
     Call {
         name: "parse",
-        refusals: &[1, 2, 3, 4, 5, 6],
+        refusals: &[1, 2, 3, 4, 5, 6, 18],
         outcomes: &[],
         suite: &[
+            part("block-headers", parse::behind_blocks)
+                .soaks()
+                .notices(),
+            part("header-bases", parse::at_every_base),
             part("headers", parse::as_written).soaks(),
             part("cut-headers", parse::cut_or_elsewhere).notices(),
             part("damaged-headers", parse::damaged).soaks().notices(),
@@ -126,9 +131,14 @@ pub static CALLS: &[Call] = &[
     },
     Call {
         name: "collect",
-        refusals: &[1, 2, 4, 6, 8, 15, 16],
+        refusals: &[1, 2, 4, 6, 8, 15, 16, 18],
         outcomes: &[],
         suite: &[
+            part("block-trees", collect::behind_blocks)
+                .soaks()
+                .notices(),
+            part("tree-causes", collect::with_several_causes).notices(),
+            part("tree-bases", collect::at_every_base),
             part("written-trees", collect::as_written).notices(),
             part("trees", collect::of_any_geometry).soaks(),
             part("cut-trees", collect::cut).soaks(),
@@ -142,9 +152,13 @@ pub static CALLS: &[Call] = &[
     },
     Call {
         name: "leaf_record",
-        refusals: &[1, 2, 6, 8, 15],
+        refusals: &[1, 2, 6, 8, 15, 18],
         outcomes: &[],
         suite: &[
+            part("block-leaves", leaf_record::behind_blocks)
+                .soaks()
+                .notices(),
+            part("leaf-bases", leaf_record::at_every_base),
             part("written-leaves", leaf_record::as_written).notices(),
             part("leaves", leaf_record::of_any_geometry).soaks(),
             part("cut-leaves", leaf_record::cut).soaks().notices(),
@@ -160,9 +174,11 @@ pub static CALLS: &[Call] = &[
     },
     Call {
         name: "find",
-        refusals: &[1, 2, 4, 6, 8, 16, 17],
+        refusals: &[1, 2, 4, 6, 8, 16, 17, 18],
         outcomes: &["found", "not found", "empty"],
         suite: &[
+            part("block-keys", find::behind_blocks).soaks().notices(),
+            part("key-bases", find::at_every_base),
             part("written-keys", find::as_written).notices(),
             part("key-fields", find::at_the_limits_of_fields).notices(),
             part("keys", find::of_any_geometry).soaks(),

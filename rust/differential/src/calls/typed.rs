@@ -31,6 +31,7 @@ pub fn header(tree: &Tree) -> Header {
     header.root_address = tree.root_address;
     header.root_records = tree.root_records;
     header.total_records = tree.total_records;
+    header.base = tree.base;
     header
 }
 

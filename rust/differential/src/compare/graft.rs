@@ -53,6 +53,7 @@ pub fn grafted(records: Records, random: &mut Random) -> (Vec<u8>, Tree) {
         root_address: root.address as u64,
         root_records: root.records as u16,
         total_records: random.number() | 1,
+        base: 0,
     };
     (file, tree)
 }

@@ -1,6 +1,8 @@
 //! Answers held to the model, to the crate's types and to the Rust, case by case.
 
+pub mod block;
 pub mod bytes;
+pub mod causes;
 pub mod graft;
 pub mod grid;
 pub mod keyed;
@@ -82,10 +84,14 @@ impl Comparison {
             untouched(buffer, from, "a buffer behind what is written", shown)?;
         }
         if self.held_to_model {
-            hold_to(case, &ours, &lent, C::model, "the model")?;
+            let model = |lent: &mut C::Lent| Some(case.model(lent));
+            hold_to(case, &ours, &lent, model, "the model")?;
         }
         if self.by == By::Rattle {
-            hold_to(case, &ours, &lent, C::typed, "the crate's types")?;
+            let typed = |lent: &mut C::Lent| Some(case.typed(lent));
+            hold_to(case, &ours, &lent, typed, "the crate's types")?;
+            let part = |lent: &mut C::Lent| case.without_base(lent);
+            hold_to(case, &ours, &lent, part, "the part without a base")?;
             case.hold_others(&ours, &lent)?;
         }
         let held_to_rust = match oracle::AVAILABLE {
@@ -100,18 +106,20 @@ impl Comparison {
     }
 }
 
-/// Holds an answer, and the buffers after it, to another answer of the case.
+/// Holds an answer, and the buffers after it, to another answer of the case, where there is one.
 fn hold_to<C: Case>(
     case: &C,
     ours: &C::Answer,
     lent: &C::Lent,
-    other: impl Fn(&C, &mut C::Lent) -> C::Answer,
+    other: impl Fn(&mut C::Lent) -> Option<C::Answer>,
     whose: &str,
 ) -> Held {
     let shown = || case.to_string();
     let mut other_lent = case.lend();
-    let theirs = other(case, &mut other_lent);
-    same(ours, &theirs, whose, shown)?;
+    let Some(theirs) = other(&mut other_lent) else {
+        return Ok(());
+    };
+    same(*ours, theirs, whose, shown)?;
     let mut buffers = lent.as_ref().iter().zip(other_lent.as_ref());
     match buffers.find(|(own, other)| own != other) {
         None => Ok(()),

@@ -1,4 +1,5 @@
-//! The Rust's answers in the shape of the C functions', as far as it has them.
+//! The Rust's answers in the shape of the C functions', as far as it has them. It has no base: what
+//! is read is the part of a file from the base on.
 
 use crate::inputs::{Leaf, Tree, Writing};
 use crate::model::{Geometry, LEVEL_LIMIT};

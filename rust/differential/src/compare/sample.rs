@@ -2,6 +2,7 @@
 
 use std::ops::Range;
 
+use super::block::block;
 use super::bytes::repeated;
 use super::{grid, rust, Comparison, Held};
 use crate::calls::write::Draft;
@@ -10,7 +11,8 @@ use crate::inputs::{Leaf, Tree, Writing};
 use crate::model::{header_size, plan, Geometry, Plan, LEVEL_LIMIT};
 use crate::random::Random;
 
-/// A file with one tree, and what was written.
+/// A file with one tree, and what was written. The places of header and image count from the
+/// tree's base.
 pub struct Sample {
     pub file: Vec<u8>,
     pub header_at: usize,
@@ -103,11 +105,20 @@ impl Sample {
         })
     }
 
-    /// The places of the header and of the image, the parts of the file that are read.
+    /// Puts a block in front of the file.
+    pub fn put_behind(&mut self, block: &[u8]) {
+        self.file.splice(..0, block.iter().copied());
+        self.tree.base += block.len() as u64;
+    }
+
+    /// The places in the file of the header and of the image, the parts of it that are read.
     pub fn parts(&self) -> [Range<usize>; 2] {
-        let header = header_size(self.tree.geometry.offset_size, self.length_size);
-        let last = self.tree.root_address as usize + self.tree.geometry.node_size as usize;
-        [self.header_at..self.header_at + header, self.image_at..last]
+        let base = self.tree.base as usize;
+        let [header, image] = [self.header_at, self.image_at].map(|place| base + place);
+        let header_end = header + header_size(self.tree.geometry.offset_size, self.length_size);
+        let root = base + self.tree.root_address as usize;
+        let image_end = root + self.tree.geometry.node_size as usize;
+        [header..header_end, image..image_end]
     }
 
     /// The leaves of the image, from its first node on.
@@ -115,6 +126,7 @@ impl Sample {
         let Tree {
             geometry,
             total_records,
+            base,
             ..
         } = self.tree;
         let plan = plan(total_records, geometry).expect("the tree was written");
@@ -123,6 +135,7 @@ impl Sample {
         nodes
             .filter(|(node, _)| node.level == 0)
             .map(|(node, address)| Leaf {
+                base,
                 address,
                 count: node.records as u16,
                 record_size: geometry.record_size,
@@ -141,11 +154,21 @@ impl Sample {
         }
     }
 
+    /// A base in the file, at its end or one beyond it, or any.
+    pub fn any_base(&self, random: &mut Random) -> u64 {
+        let length = self.file.len() as u64;
+        match random.up_to(2) {
+            0 => random.up_to(length),
+            1 => length + random.up_to(1),
+            _ => random.any_magnitude(u64::MAX),
+        }
+    }
+
     /// The header, with some of its numbers made up.
     pub fn made_up_header(&self, random: &mut Random) -> Tree {
         let mut tree = self.tree;
         for _ in 0..=random.up_to(2) {
-            match random.up_to(8) {
+            match random.up_to(9) {
                 0 => tree.depth = random.up_to(LEVEL_LIMIT.into()) as u16,
                 1 => tree.root_records = random.any_magnitude(u16::MAX.into()) as u16,
                 2 => tree.root_address = self.any_address(random),
@@ -154,6 +177,7 @@ impl Sample {
                 5 => tree.geometry.offset_size = random.up_to(255) as u8,
                 6 => tree.geometry.offset_size = grid::field_size(random),
                 7 => tree.total_records = random.any_magnitude(u64::MAX),
+                8 => tree.base = self.any_base(random),
                 _ if random.up_to(9) == 0 => tree.depth = random.up_to(u16::MAX.into()) as u16,
                 _ => tree.tree_type = random.up_to(255) as u8,
             }
@@ -205,6 +229,13 @@ pub fn any(by: By, random: &mut Random) -> Option<Sample> {
     Sample::new(by, sizes, random.up_to(1) == 0, random)
 }
 
+/// The same in a file with a block in front.
+pub fn any_behind_a_block(by: By, random: &mut Random) -> Option<Sample> {
+    let mut sample = any(by, random)?;
+    sample.put_behind(&block(random));
+    Some(sample)
+}
+
 /// Sizes of up to some hundred records at any geometry of the grid.
 pub fn any_sizes(random: &mut Random) -> Sizes {
     let geometry = grid::one_of_the_grid(random);
@@ -231,6 +262,7 @@ fn tree_of(given: &Writing, plan: &Plan) -> Tree {
         root_address: plan.root_address(given.start, given.geometry),
         root_records: plan.root_records(given.record_count) as u16,
         total_records: given.record_count,
+        base: 0,
     }
 }
 

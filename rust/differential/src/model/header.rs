@@ -1,5 +1,6 @@
 //! The header reader.
 
+use super::base;
 use super::lookup3::lookup3;
 use super::numbers::get;
 use super::plan::{check_offset_size, field_size};
@@ -36,9 +37,16 @@ impl<'a> Part<'a> {
     }
 }
 
-pub fn parse(file: &[u8], offset: u64, offset_size: u8, length_size: u8) -> Answer<Tree> {
+/// The header at an offset of the part of a file from a base on.
+pub fn parse(
+    file: &[u8],
+    base: u64,
+    offset: u64,
+    offset_size: u8,
+    length_size: u8,
+) -> Answer<Tree> {
     let mut part = Part {
-        file,
+        file: base::part(file, base)?,
         offset,
         found: 0,
     };
@@ -68,5 +76,6 @@ pub fn parse(file: &[u8], offset: u64, offset_size: u8, length_size: u8) -> Answ
         root_address,
         root_records,
         total_records,
+        base,
     })
 }

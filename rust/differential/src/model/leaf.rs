@@ -1,5 +1,6 @@
 //! A look at one leaf: its checks, the record at an index; and how any node begins.
 
+use super::base;
 use super::lookup3::lookup3;
 use super::numbers::get;
 use super::refusal::{self, require, Answer};
@@ -7,9 +8,10 @@ use crate::inputs::Leaf;
 
 /// Copies a record to the front of the output; returns its length.
 pub fn leaf_record(file: &[u8], leaf: &Leaf, index: u64, output: &mut [u8]) -> Answer<u64> {
+    let part = base::part(file, leaf.base)?;
     let size = leaf.record_size;
     require(size != 0, refusal::record_size_zero())?;
-    let records = records(file, leaf)?;
+    let records = records(part, leaf.address, leaf.count, size)?;
     let record = match index < leaf.count.into() {
         true => &records[index as usize * usize::from(size)..][..size.into()],
         false => &[],
@@ -21,12 +23,12 @@ pub fn leaf_record(file: &[u8], leaf: &Leaf, index: u64, output: &mut [u8]) -> A
 }
 
 /// The records of a leaf, end to end, once its checks have passed.
-pub fn records<'a>(file: &'a [u8], leaf: &Leaf) -> Answer<&'a [u8]> {
-    let part = begins(file, leaf.address, b"BTLF")?;
-    let end = 6 + usize::from(leaf.count) * usize::from(leaf.record_size);
+pub fn records(file: &[u8], address: u64, count: u16, record_size: u16) -> Answer<&[u8]> {
+    let part = begins(file, address, b"BTLF")?;
+    let end = 6 + usize::from(count) * usize::from(record_size);
     require(
         end <= part.len(),
-        refusal::file_ends_early(u128::from(leaf.address) + end as u128, file.len()),
+        refusal::file_ends_early(u128::from(address) + end as u128, file.len()),
     )?;
     if part.len() - end >= 4 {
         let stored = get(&part[end..end + 4]) as u32;

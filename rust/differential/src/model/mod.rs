@@ -2,6 +2,7 @@
 //!
 //! It shares no code with the wrapper or the oracle. An answer is accepted figures or a refusal.
 
+mod base;
 mod collect;
 mod find;
 mod header;

@@ -1,13 +1,14 @@
 //! The nodes of a tree: the tests before the root, the tests of each node, and what a node has.
 
+use super::base;
 use super::leaf;
 use super::numbers::get;
 use super::plan::check_offset_size;
 use super::refusal::{self, require, Answer};
 use super::table::{table, Geometry, Table};
-use crate::inputs::{Leaf, Tree};
+use crate::inputs::Tree;
 
-/// The nodes of a tree in a file.
+/// The nodes of a tree in a file, that is in its part from the header's base on.
 pub struct Nodes<'a> {
     file: &'a [u8],
     geometry: Geometry,
@@ -16,7 +17,7 @@ pub struct Nodes<'a> {
 
 /// A node that has passed its tests.
 pub struct TestedNode<'a> {
-    /// The place of its first record in the file.
+    /// The place of its first record.
     pub place: u64,
     /// Its records, end to end.
     pub records: &'a [u8],
@@ -24,10 +25,18 @@ pub struct TestedNode<'a> {
     pub children: Vec<(u64, u16)>,
 }
 
+impl Tree {
+    /// Whether it is taken for one without records.
+    pub fn is_empty(&self) -> bool {
+        self.total_records == 0 || self.root_records == 0
+    }
+}
+
 impl<'a> Nodes<'a> {
     /// The nodes, where the tests before the root pass; none where the tree is empty.
     pub fn of(file: &'a [u8], tree: &Tree) -> Answer<Option<Nodes<'a>>> {
-        if tree.total_records == 0 || tree.root_records == 0 {
+        let file = base::part(file, tree.base)?;
+        if tree.is_empty() {
             return Ok(None);
         }
         let geometry = tree.geometry;
@@ -53,13 +62,8 @@ impl<'a> Nodes<'a> {
     }
 
     fn leaf(&self, address: u64, count: u16) -> Answer<TestedNode<'a>> {
-        let leaf = Leaf {
-            address,
-            count,
-            record_size: self.geometry.record_size,
-        };
         Ok(TestedNode {
-            records: leaf::records(self.file, &leaf)?,
+            records: leaf::records(self.file, address, count, self.geometry.record_size)?,
             place: address + 6,
             children: Vec::new(),
         })

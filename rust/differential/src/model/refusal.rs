@@ -99,3 +99,7 @@ pub fn too_deep(depth: u16) -> Refusal {
 pub fn key_field() -> Refusal {
     plain(17)
 }
+
+pub fn base_beyond_file() -> Refusal {
+    plain(18)
+}

@@ -1,11 +1,10 @@
 //! The stored list of collecting.
 
 use super::images::BEFORE;
-use super::{array, tree_of, List};
+use super::{array, behind, tree_of, List, BLOCK};
 use crate::calls::collect::Collecting;
 use crate::calls::By;
 use crate::compare::{Comparison, Held};
-use crate::inputs::Tree;
 use crate::model::Geometry;
 use crate::random::Random;
 
@@ -18,15 +17,16 @@ pub const LIST: List = List {
 
 const LAYOUT: &str = "\
 // Collecting: rows of file length, tree type, node size, record size, depth, root address, root
-// records, records in all, offset size, output length, and the seven numbers of the answer. Every
-// byte of the output is 238 before the call. COLLECT_BYTES holds for each row the file and then the
-// output as the call leaves it.
+// records, records in all, base, offset size, output length, and the seven numbers of the answer.
+// Every byte of the output is 238 before the call. COLLECT_BYTES holds for each row the file and then
+// the output as the call leaves it.
 ";
 
 /// A collecting.
 struct Case {
     file: Vec<u8>,
-    tree: Tree,
+    header: [u64; 8],
+    offset_size: u8,
     output_length: usize,
 }
 
@@ -34,7 +34,8 @@ impl Case {
     fn collecting(&self) -> Collecting<'_> {
         Collecting {
             file: &self.file,
-            tree: &self.tree,
+            header: self.header,
+            offset_size: self.offset_size,
             output_length: self.output_length,
             room: 1_000,
         }
@@ -48,7 +49,8 @@ fn written(geometry: Geometry, record_count: u64) -> Case {
     let (file, tree) = tree_of(geometry, 3, &records);
     Case {
         file,
-        tree,
+        header: tree.figures(),
+        offset_size: geometry.offset_size,
         output_length: length + 2,
     }
 }
@@ -63,8 +65,16 @@ fn cases() -> Vec<Case> {
     ]
     .map(|(geometry, count)| written(geometry, count))
     .into();
+    let small = |record_count| written(Geometry::new(21, 3, 2), record_count);
     for (record_count, fault) in FAULTS {
-        let mut case = written(Geometry::new(21, 3, 2), record_count);
+        let mut case = small(record_count);
+        fault(&mut case);
+        cases.push(case);
+    }
+    for (record_count, fault) in BEHIND_THE_BLOCK {
+        let mut case = small(record_count);
+        case.file = behind(&case.file);
+        case.header[7] = BLOCK.len() as u64;
         fault(&mut case);
         cases.push(case);
     }
@@ -93,11 +103,38 @@ const FAULTS: [(u64, Fault); 22] = [
     (4, |case| case.file.truncate(50)),
     (4, |case| case.file.truncate(53)),
     (4, |case| case.file.truncate(59)),
-    (4, |case| case.tree.root_address = u64::MAX - 3),
-    (4, |case| case.tree.geometry.offset_size = 1),
-    (4, |case| case.tree.geometry.record_size = 0),
-    (4, |case| case.tree.depth = 33),
-    (4, |case| case.tree.total_records = 0),
+    (4, |case| case.header[4] = u64::MAX - 3),
+    (4, |case| case.offset_size = 1),
+    (4, |case| case.header[2] = 0),
+    (4, |case| case.header[3] = 33),
+    (4, |case| case.header[6] = 0),
+];
+
+/// The same behind the block, of 13 bytes: nodes stand 13 bytes later, and have the addresses that
+/// they had.
+const BEHIND_THE_BLOCK: [(u64, Fault); 20] = [
+    (8, |_| ()),
+    (4, |_| ()),
+    (8, |case| case.output_length = 8),
+    (8, |case| case.file[13 + 66] ^= 1),
+    (8, |case| case.file[13 + 93] ^= 1),
+    (4, |case| case.file.truncate(13 + 50)),
+    (4, |case| case.file.truncate(13 + 53)),
+    (4, |case| case.file.truncate(13 + 59)),
+    (4, |case| case.header[4] = u64::MAX - 3),
+    (4, |case| case.offset_size = 1),
+    (4, |case| case.header[2] = 0),
+    (4, |case| case.header[3] = 33),
+    (4, |case| case.header[6] = 0),
+    (4, |case| case.header[7] = 0),
+    (4, |case| case.header[7] = case.file.len() as u64),
+    (4, |case| case.header[7] = case.file.len() as u64 + 1),
+    (4, |case| case.header[7] = u64::MAX),
+    (4, |case| case.header = [5, 21, 3, 1, 45, 1, 0, 1_000]),
+    (4, |case| case.header = [5, 21, 0, 33, 45, 1, 4, 1_000]),
+    (4, |case| {
+        case.header = [261, 21 + (1 << 32), 65_539, 65_537, 45, 65_537, 4, 13];
+    }),
 ];
 
 fn text(by: By) -> String {
@@ -108,8 +145,8 @@ fn text(by: By) -> String {
         let answer = by.answer(&case.collecting(), &mut lent);
         let [output] = lent;
         let mut row = vec![case.file.len() as u64];
-        row.extend(case.tree.figures());
-        row.extend([case.tree.geometry.offset_size.into(), output.len() as u64]);
+        row.extend(case.header);
+        row.extend([case.offset_size.into(), output.len() as u64]);
         row.extend(answer);
         rows.push(row);
         bytes.extend([case.file, output]);

@@ -1,6 +1,6 @@
 //! The stored list of finds.
 
-use super::{array, tree_of, List};
+use super::{array, behind, tree_of, List, BLOCK};
 use crate::calls::find::{Finding, Search};
 use crate::calls::By;
 use crate::compare::{Comparison, Held};
@@ -17,8 +17,8 @@ pub const LIST: List = List {
 
 const LAYOUT: &str = "\
 // Finds: rows of the place in FIND_BYTES where the file begins, file length, tree type, node size,
-// record size, depth, root address, root records, records in all, offset size, start and width of
-// the key, key sought, and the six numbers of the answer. FIND_BYTES holds the files end to end;
+// record size, depth, root address, root records, records in all, base, offset size, start and width
+// of the key, key sought, and the six numbers of the answer. FIND_BYTES holds the files end to end;
 // where a row's length is less than a file has, the file ends early.
 ";
 
@@ -26,7 +26,7 @@ const LAYOUT: &str = "\
 struct Case {
     file: usize,
     length: usize,
-    header: [u64; 7],
+    header: [u64; 8],
     offset_size: u8,
     key: Field,
     sought: u64,
@@ -42,6 +42,8 @@ impl Case {
         }
     }
 }
+
+type Change = fn(&mut Case);
 
 const LAST: u64 = u64::MAX;
 /// The field of the keys that are whole records.
@@ -107,6 +109,7 @@ fn finds() -> Finds {
     out_of_order(&mut finds);
     leaves(&mut finds);
     damaged(&mut finds);
+    behind_the_block(&mut finds);
     finds
 }
 
@@ -143,18 +146,17 @@ fn out_of_order(finds: &mut Finds) {
     }
     finds.keys(&tree, Field::new(7, 1), [0]);
 
-    type Change = fn(&mut Case);
     let headers: [Change; 10] = [
-        |case| case.header = [5, 40, 0, 33, LAST, 1, 0],
-        |case| case.header = [5, 40, 0, 33, LAST, 0, 4],
-        |case| case.header = [5, 40, 0, 33, LAST, 1, 4],
+        |case| case.header = [5, 40, 0, 33, LAST, 1, 0, 0],
+        |case| case.header = [5, 40, 0, 33, LAST, 0, 4, 0],
+        |case| case.header = [5, 40, 0, 33, LAST, 1, 4, 0],
         |case| case.header[3] = 33,
         |case| case.header[3] = 65_535,
         |case| case.header[4] = LAST - 3,
         |case| case.header[4] = 81,
         |case| case.offset_size = 3,
         |case| case.header[3] += 1 << 16,
-        |case| case.header = [261, 40 + (1 << 32), 65_544, 1, 80, 65_537, 1],
+        |case| case.header = [261, 40 + (1 << 32), 65_544, 1, 80, 65_537, 1, 0],
     ];
     for (number, change) in headers.into_iter().enumerate() {
         // The tests before the root come in the order that they have, so a wrong field too.
@@ -181,6 +183,32 @@ fn damaged(finds: &mut Finds) {
         file[place] ^= 0xff;
         let tree = finds.file((file, tree));
         finds.keys(&tree, WHOLE, [3, 4]);
+    }
+}
+
+/// A tree behind the block, of 13 bytes: its leaves at 2 and 42 of the part, its root at 82.
+fn behind_the_block(finds: &mut Finds) {
+    let (file, mut tree) = whole(&[1, 2, 3, 4], 2);
+    tree.base = BLOCK.len() as u64;
+    let tree = finds.file((behind(&file), tree));
+    finds.keys(&tree, WHOLE, 0..=5);
+    let changes: [Change; 13] = [
+        |case| case.length = 13 + 87,
+        |case| case.length = 13 + 95,
+        |case| case.length = 13 + 113,
+        |case| case.header[7] = 0,
+        |case| case.header[7] += 1,
+        |case| (case.header[4], case.header[7]) = (82 + 13, 0),
+        |case| case.header[7] = case.length as u64,
+        |case| case.header[7] = case.length as u64 + 1,
+        |case| case.header[7] = LAST,
+        |case| (case.header[6], case.header[7]) = (0, LAST),
+        |case| (case.header[2], case.header[7]) = (0, LAST),
+        |case| (case.key.width, case.header[7]) = (0, LAST),
+        |case| (case.length, case.header[6], case.header[7]) = (0, 0, 1),
+    ];
+    for change in changes {
+        finds.find(&tree, WHOLE, 2, change);
     }
 }
 

@@ -1,6 +1,6 @@
 //! The stored list of headers read.
 
-use super::{array, List};
+use super::{array, behind, List, BLOCK};
 use crate::calls::parse::Parsing;
 use crate::calls::By;
 use crate::compare::{Comparison, Held};
@@ -16,13 +16,14 @@ pub const LIST: List = List {
 };
 
 const LAYOUT: &str = "\
-// Headers read: rows of file length, offset, offset size, length size, and the eight numbers of the
-// answer. HEADER_BYTES holds the files end to end.
+// Headers read: rows of file length, base, offset, offset size, length size, and the nine numbers of
+// the answer. HEADER_BYTES holds the files end to end.
 ";
 
 /// A reading.
 struct Case {
     file: Vec<u8>,
+    base: u64,
     offset: u64,
     sizes: (u8, u8),
 }
@@ -31,6 +32,7 @@ impl Case {
     fn parsing(&self) -> Parsing<'_> {
         Parsing {
             file: &self.file,
+            base: self.base,
             offset: self.offset,
             sizes: self.sizes,
         }
@@ -62,12 +64,23 @@ const LENGTHS: [usize; 14] = [0, 2, 6, 7, 18, 19, 22, 23, 24, 25, 26, 27, 30, 31
 const LAST: u64 = u64::MAX;
 const OFFSETS: [u64; 8] = [0, 4, 27, 28, LAST - 16, LAST - 4, LAST - 3, LAST];
 
-fn cases() -> Vec<Case> {
-    let read = |file: &[u8], offset, sizes| Case {
+/// A reading without a base.
+fn read(file: &[u8], offset: u64, sizes: (u8, u8)) -> Case {
+    Case {
         file: file.to_vec(),
+        base: 0,
         offset,
         sizes,
-    };
+    }
+}
+
+fn cases() -> Vec<Case> {
+    let mut cases = without_base();
+    cases.extend(behind_blocks());
+    cases
+}
+
+fn without_base() -> Vec<Case> {
     let file = written(3, 4, 2);
     let damaged = |&place: &usize| {
         let mut damaged = file.clone();
@@ -86,13 +99,54 @@ fn cases() -> Vec<Case> {
         .collect()
 }
 
+type Change = fn(&mut Case);
+
+/// What is changed in the read of that header behind the block.
+const CHANGES: [Change; 17] = [
+    |_| (),
+    |case| (case.base, case.offset) = (case.base + 3, 0),
+    |case| (case.base, case.offset) = (1, case.base + 2),
+    |case| (case.base, case.offset) = (0, case.base + 3),
+    |case| case.base = 0,
+    |case| case.base += 1,
+    |case| case.file[BLOCK.len() + 7] = 1,
+    |case| case.sizes.0 = 3,
+    |case| case.sizes.1 = 3,
+    |case| case.file[BLOCK.len() + 28] ^= 0x11,
+    |case| case.file.truncate(BLOCK.len() + 30),
+    |case| case.file.truncate(BLOCK.len() + 6),
+    |case| case.offset = LAST,
+    |case| case.base = case.file.len() as u64,
+    |case| case.base = case.file.len() as u64 + 1,
+    |case| case.base = LAST,
+    |case| (case.base, case.offset) = (LAST, case.base + 4),
+];
+
+/// That header behind the block; a header behind 100 bytes and 7 more in a file that ends in it;
+/// empty files.
+fn behind_blocks() -> Vec<Case> {
+    let file = written(3, 4, 2);
+    let mut cases = Vec::from(CHANGES.map(|change| {
+        let mut case = read(&behind(&file), 3, (4, 2));
+        case.base = BLOCK.len() as u64;
+        change(&mut case);
+        case
+    }));
+    let cut = [vec![0xaa; 100], written(7, 8, 8)].concat();
+    for (file, base, offset) in [(&cut[..120], 100, 7), (&[], 0, 0), (&[], 1, 0)] {
+        let case = read(file, offset, (8, 8));
+        cases.push(Case { base, ..case });
+    }
+    cases
+}
+
 fn text(by: By) -> String {
     let cases = cases();
     let rows: Vec<Vec<u64>> = cases
         .iter()
         .map(|case| {
             let (offset_size, length_size) = case.sizes;
-            let mut row = vec![case.file.len() as u64, case.offset];
+            let mut row = vec![case.file.len() as u64, case.base, case.offset];
             row.extend([offset_size, length_size].map(u64::from));
             row.extend(by.answer(&case.parsing(), &mut []));
             row

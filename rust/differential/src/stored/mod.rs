@@ -5,6 +5,7 @@ pub mod collecting;
 pub mod finding;
 pub mod headers;
 pub mod images;
+pub mod looks;
 pub mod plans;
 
 use crate::calls::By;
@@ -22,11 +23,12 @@ pub struct List {
     pub family: Family,
 }
 
-pub const LISTS: [List; 5] = [
+pub const LISTS: [List; 6] = [
     plans::LIST,
     images::LIST,
     headers::LIST,
     collecting::LIST,
+    looks::LIST,
     finding::LIST,
 ];
 
@@ -67,6 +69,14 @@ fn array<N: Copy + Into<u64>>(name: &str, kind: &str, rows: &[Vec<N>]) -> String
     text
 }
 
+/// A block to put in front of files: it begins as a leaf does, and as a header in it.
+const BLOCK: [u8; 13] = *b"BTLF\0\x05 BTHD\0\x05";
+
+/// A file with the block in front.
+fn behind(file: &[u8]) -> Vec<u8> {
+    [&BLOCK, file].concat()
+}
+
 /// A file with the tree of these records behind so many other bytes, without the zeros after its
 /// root, and what its header says.
 fn tree_of(geometry: Geometry, front: usize, records: &[u8]) -> (Vec<u8>, Tree) {
@@ -92,6 +102,7 @@ fn tree_of(geometry: Geometry, front: usize, records: &[u8]) -> (Vec<u8>, Tree) 
         root_address: plan.root_address(given.start, geometry),
         root_records: plan.root_records(record_count) as u16,
         total_records: record_count,
+        base: 0,
     };
     (file, tree)
 }

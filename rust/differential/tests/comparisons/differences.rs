@@ -114,6 +114,7 @@ fn collecting() {
             root_address: 0,
             root_records: 3,
             total_records: 3,
+            base: 0,
         };
         let leaf = empty_leaf();
         let refused = |tree: &Tree| {
@@ -135,6 +136,7 @@ fn looks_at_a_leaf() {
     with_rust("the Rust reads a leaf on where 8 refuses", || {
         let file = empty_leaf();
         let leaf = Leaf {
+            base: 0,
             address: 0,
             count: 3,
             record_size: 0,

@@ -18,6 +18,8 @@ const SOON: Duration = Duration::from_secs(10);
 /// The most records of a node, for which a count has two bytes.
 const MOST: usize = 65_535;
 const WIDE: Geometry = Geometry::new(65_545, 1, 8);
+/// The bytes of a block in front of a file.
+const BLOCK: usize = 1_000;
 
 /// A file with one node of each level, and its root.
 struct Tower {
@@ -61,6 +63,7 @@ fn header(address: u64, records: usize, depth: u16) -> Tree {
         root_address: address,
         root_records: records as u16,
         total_records: u64::MAX,
+        base: 0,
     }
 }
 
@@ -79,12 +82,7 @@ fn soon<A: Send>(name: &str, run: impl FnOnce() -> A + Send) -> (A, Duration) {
 
 /// Collects on a small stack, says what was read, and holds the nodes to 33 for each record and 33.
 fn collect(name: &str, file: &[u8], tree: &Tree, output_length: usize) -> [u64; 7] {
-    let case = Collecting {
-        file,
-        tree,
-        output_length,
-        room: 0,
-    };
+    let case = Collecting::of(file, tree, output_length, 0);
     let mut lent = [vec![0; output_length]];
     let (answer, taken) = soon(name, || case.rattle(&mut lent));
     let [number, _, _, records, leaves, internals, _] = answer;
@@ -195,7 +193,41 @@ fn deepest_header() {
     assert_eq!(found, [[16, u16::MAX.into(), 0, 0, 0, 0]; 2]);
 }
 
-/// What the crate makes room for ends with the file's length, whatever the file and its header say.
+/// Bases at the limits, in a file that would keep a reader busy: all but 0 and the file's length are
+/// refused at once, or find no root.
+#[test]
+fn bases_at_the_limits() {
+    let tower = tower(|_| MOST);
+    let length = tower.file.len() as u64;
+    for base in [
+        1,
+        length - 1,
+        length,
+        length + 1,
+        1 << 32,
+        1 << 63,
+        u64::MAX,
+    ] {
+        let tree = Tree {
+            base,
+            ..header(tower.address, tower.records, LEVEL_LIMIT)
+        };
+        let name = &format!("base {base}");
+        let answer = collect(name, &tower.file, &tree, 1 << 20);
+        let number = match base {
+            1 => 2,
+            _ if base <= length => 1,
+            _ => 18,
+        };
+        assert_eq!([answer[0], answer[3]], [number, 0], "{name}");
+        for found in find(name, &tower.file, &tree) {
+            assert_eq!([found[0], found[3]], [number, 0], "{name}");
+        }
+    }
+}
+
+/// What the crate makes room for ends with the length of the part behind the block, whatever the
+/// file and its header say.
 #[test]
 fn into_vectors() {
     let shared = tower(|level| usize::from(level > 0));
@@ -204,22 +236,25 @@ fn into_vectors() {
         ("both children one node", shared),
         ("65,536 children", wide),
     ] {
+        let length = tower.file.len() as u64;
+        let file = [vec![7; BLOCK], tower.file].concat();
         let begin = Instant::now();
         for total_records in [1, 1_000, u64::MAX] {
             let tree = Tree {
                 total_records,
+                base: BLOCK as u64,
                 ..header(tower.address, tower.records, LEVEL_LIMIT)
             };
-            let collected = typed::header(&tree).collect_to_vec(&tower.file);
+            let collected = typed::header(&tree).collect_to_vec(&file);
             let error = collected.expect_err("the tree does not end");
-            let length = tower.file.len() as u64;
             assert_eq!(error.refusal, Refusal::OutputTooShort(length), "{name}");
             assert_eq!(error.counts.records, length, "{name}");
         }
         let taken = begin.elapsed();
         assert!(taken < SOON, "{name} took {taken:?}");
         say(&format!(
-            "hostile file, {name}, into a vector: refused by 15 at the file's length, {} ms",
+            "hostile file, {name}, into a vector: refused by 15 at the length behind the block, {} \
+             ms",
             taken.as_millis()
         ));
     }

@@ -44,6 +44,14 @@ fn any(random: &mut Random) -> u64 {
     }
 }
 
+/// A base in the file or one beyond it, or any.
+fn any_base(file: &[u8], random: &mut Random) -> u64 {
+    match random.up_to(1) {
+        0 => random.up_to(file.len() as u64 + 1),
+        _ => any(random),
+    }
+}
+
 fn any_geometry(random: &mut Random) -> Geometry {
     let [node_size, record_size, offset_size] = [(); 3].map(|()| any(random));
     let mut geometry = Geometry::new(node_size as u32, record_size as u16, offset_size as u8);
@@ -98,18 +106,22 @@ fn reads(file: &[u8], sample: Option<Header>, random: &mut Random) {
     let [offset_size, length_size] = [(); 2].map(|()| any(random) as u8);
     black_box(Header::size(offset_size, length_size));
     let header = Header::parse(file, any(random), offset_size, length_size);
+    let base = any_base(file, random);
+    let based = Header::parse_at(file, base, any(random), offset_size, length_size);
+    let header = header.or(based).inspect_err(told);
     let mut header = header.or(sample.ok_or(())).unwrap_or_default();
     for _ in 0..random.up_to(3) {
-        match random.up_to(5) {
+        match random.up_to(6) {
             0 => header.geometry = any_geometry(random),
             1 => header.depth = any(random) as u16,
             2 => header.root_address = any(random),
             3 => header.root_records = any(random) as u16,
             4 => header.total_records = any(random),
+            5 => header.base = any_base(file, random),
             _ => header.tree_type = any(random) as u8,
         }
     }
-    black_box(header.figures());
+    black_box((header.figures(), header.figures_at()));
     let mut output = vec![0; random.any_magnitude(5_000) as usize];
     let _ = header.collect(file, &mut output).map_err(told_with_counts);
     let _ = header.collect_to_vec(file).map_err(told_with_counts);
@@ -119,14 +131,20 @@ fn reads(file: &[u8], sample: Option<Header>, random: &mut Random) {
 
     let [count, record_size] = [(); 2].map(|()| any(random) as u16);
     let address = [any(random), header.root_address][random.up_to(1) as usize];
-    match LeafView::new(file, address, count, record_size) {
-        Ok(view) => {
-            let index = any(random) as usize;
-            assert_eq!(view.record(index).is_some(), index < view.len());
-            assert_eq!(view.into_iter().flatten().count(), view.as_bytes().len());
-            assert_eq!(view.is_empty(), view.records().next().is_none());
+    let base = any_base(file, random);
+    for view in [
+        LeafView::new(file, address, count, record_size),
+        LeafView::new_at(file, base, address, count, record_size),
+    ] {
+        match view {
+            Ok(view) => {
+                let index = any(random) as usize;
+                assert_eq!(view.record(index).is_some(), index < view.len());
+                assert_eq!(view.into_iter().flatten().count(), view.as_bytes().len());
+                assert_eq!(view.is_empty(), view.records().next().is_none());
+            }
+            Err(refusal) => told(&refusal),
         }
-        Err(refusal) => told(&refusal),
     }
 }
 

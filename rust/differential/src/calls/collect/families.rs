@@ -1,6 +1,9 @@
 //! Collecting: the families of cases.
 
 use super::Collecting;
+use crate::calls::based::Based;
+use crate::compare::block;
+use crate::compare::causes::{with_causes, with_high_bits};
 use crate::compare::graft::grafted;
 use crate::compare::sample::{self, for_each, Sample, Sizes};
 use crate::compare::{same, Comparison, Held};
@@ -8,8 +11,10 @@ use crate::random::Random;
 
 /// The room in which the trees of small files end, or are not given to the Rust.
 const ROOM: usize = 1 << 16;
-/// Trees at any geometry, made-up headers for each small file, and random graphs of nodes.
+/// Trees at any geometry, in files without and with a block, made-up headers for each small file,
+/// and random graphs of nodes.
 const TREES: usize = 10_000;
+const BLOCKS: usize = 3_000;
 const HEADERS: usize = 4_000;
 const GRAPHS: usize = 120_000;
 /// Images up to this long get every damage of a byte.
@@ -84,17 +89,72 @@ pub fn damaged(to: &mut Comparison, random: &mut Random) -> Held {
     })
 }
 
-/// Headers with some numbers made up, over the small files.
+/// Headers with some numbers made up, over the small files, and figures above their fields' ranges.
 pub fn with_made_up_headers(to: &mut Comparison, random: &mut Random) -> Held {
     for_each(to, random, |to, sample, random| {
         for _ in 0..HEADERS {
             let tree = &sample.made_up_header(random);
             let output = random.any_magnitude(2 * ROOM as u64) as usize;
-            let case = of(sample, output);
-            to.hold("made-up headers", &Collecting { tree, ..case })?;
+            let room = of(sample, output).room;
+            let mut case = Collecting::of(&sample.file, tree, output, room);
+            if random.up_to(1) == 0 {
+                case.header = with_high_bits(case.header, random);
+            }
+            to.hold("made-up headers", &case)?;
         }
         Ok(())
     })
+}
+
+/// Several causes at once, over the small files.
+pub fn with_several_causes(to: &mut Comparison, random: &mut Random) -> Held {
+    for_each(to, random, |to, sample, _| {
+        for (file, tree) in with_causes(&sample.file, &sample.tree) {
+            let case = Collecting::of(file, &tree, sample.records.len(), ROOM);
+            to.hold("several causes", &case)?;
+        }
+        Ok(())
+    })
+}
+
+/// Every base of the small files, and huge ones: the root at its address, and where it stands.
+pub fn at_every_base(to: &mut Comparison, random: &mut Random) -> Held {
+    for_each(to, random, |to, sample, _| {
+        let whole = of(sample, sample.records.len());
+        for base in block::every(sample.file.len()) {
+            let mut case = whole.at(base);
+            to.hold("every base", &case)?;
+            case.header[4] = case.header[4].wrapping_sub(base);
+            to.hold("every base", &case)?;
+        }
+        Ok(())
+    })
+}
+
+/// Trees behind blocks, at any geometry: whole, into an output of any length, from other bases, cut,
+/// and damaged.
+pub fn behind_blocks(to: &mut Comparison, random: &mut Random) -> Held {
+    for _ in 0..BLOCKS {
+        let Some(mut sample) = sample::any_behind_a_block(to.by, random) else {
+            continue;
+        };
+        to.hold_whole("behind blocks", &sample)?;
+        let length = sample.records.len();
+        let short = random.up_to(length as u64) as usize;
+        to.hold("behind blocks", &of(&sample, short))?;
+        let whole = of(&sample, length);
+        for base in block::some(sample.file.len(), random) {
+            to.hold("other bases", &whole.at(base))?;
+        }
+        let [_, image] = sample.parts();
+        let place = random.up_to(image.end as u64 - 1) as usize;
+        let file = &sample.file[..place];
+        to.hold("behind blocks, cut", &Collecting { file, ..whole })?;
+        let place = image.start + random.up_to(image.len() as u64 - 1) as usize;
+        sample.file[place] ^= 1 << random.up_to(7);
+        to.hold("behind blocks, damaged", &of(&sample, length))?;
+    }
+    Ok(())
 }
 
 /// Nodes that point at one another at random, deep ones and shared ones among them.
@@ -105,13 +165,7 @@ pub fn of_random_graphs(to: &mut Comparison, random: &mut Random) -> Held {
             0 => random.any_magnitude(ROOM as u64) as usize,
             _ => 4_000,
         };
-        let case = Collecting {
-            file: &file,
-            tree: &tree,
-            output_length: output,
-            room: ROOM,
-        };
-        to.hold("random graphs", &case)?;
+        to.hold("random graphs", &Collecting::of(&file, &tree, output, ROOM))?;
     }
     Ok(())
 }
@@ -155,12 +209,8 @@ pub fn of_many_records(to: &mut Comparison, random: &mut Random) -> Held {
 
 /// The collecting of a sample's tree into an output of a length.
 fn of(sample: &Sample, output_length: usize) -> Collecting<'_> {
-    Collecting {
-        file: &sample.file,
-        tree: &sample.tree,
-        output_length,
-        room: ROOM.max(sample.records.len()),
-    }
+    let room = ROOM.max(sample.records.len());
+    Collecting::of(&sample.file, &sample.tree, output_length, room)
 }
 
 impl Comparison {

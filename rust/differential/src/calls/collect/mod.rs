@@ -7,6 +7,7 @@ use std::fmt;
 
 use nuldrafon::raw;
 
+use super::based::Based;
 use super::case::{array, Case, Fault, Told};
 use super::typed;
 use crate::compare::bytes::{beginning, pattern, same_bytes};
@@ -14,33 +15,51 @@ use crate::compare::{rust, same, Held};
 use crate::inputs::Tree;
 use crate::model;
 pub use families::{
-    as_written, cut, damaged, of_any_geometry, of_many_records, of_random_graphs,
-    with_made_up_headers,
+    as_written, at_every_base, behind_blocks, cut, damaged, of_any_geometry, of_many_records,
+    of_random_graphs, with_made_up_headers, with_several_causes,
 };
 
 /// Files up to this long are also collected into a buffer that the crate makes.
 const TO_VEC: usize = 1 << 16;
 
-/// A collecting into an output of a length. Where that is too short, the Rust, which has none, is
-/// asked only if the model finds an end in a larger `room`: a small file can hold a tree that it
-/// would read for hours.
+/// A collecting into an output of a length, by a header's figures as they go over and the offset
+/// size. Where the output is too short, the Rust, which has none, is asked only if the model finds
+/// an end in a larger `room`: a small file can hold a tree that it would read for hours.
 #[derive(Clone, Copy)]
 pub struct Collecting<'a> {
     pub file: &'a [u8],
-    pub tree: &'a Tree,
+    pub header: [u64; 8],
+    pub offset_size: u8,
     pub output_length: usize,
     pub room: usize,
 }
 
 impl fmt::Display for Collecting<'_> {
     fn fmt(&self, to: &mut fmt::Formatter) -> fmt::Result {
-        let Collecting {
-            file,
-            tree,
-            output_length,
-            ..
-        } = self;
-        write!(to, "{tree:?} into {output_length}, {}", beginning(file))
+        write!(
+            to,
+            "{:?}, offset size {}, into {}, {}",
+            self.header,
+            self.offset_size,
+            self.output_length,
+            beginning(self.file)
+        )
+    }
+}
+
+impl Based for Collecting<'_> {
+    fn file(&self) -> &[u8] {
+        self.file
+    }
+
+    fn base(&self) -> u64 {
+        self.header[7]
+    }
+
+    fn at(&self, base: u64) -> Self {
+        let mut other = *self;
+        other.header[7] = base;
+        other
     }
 }
 
@@ -53,27 +72,15 @@ impl Case for Collecting<'_> {
     }
 
     fn rattle(&self, [output]: &mut Self::Lent) -> Self::Answer {
-        let tree = self.tree;
-        raw::collect(
-            self.file,
-            tree.tree_type,
-            tree.geometry.node_size,
-            tree.geometry.record_size,
-            tree.depth,
-            tree.root_address,
-            tree.root_records,
-            tree.total_records,
-            tree.geometry.offset_size,
-            output,
-        )
+        raw::collect_at(self.file, &self.header, self.offset_size, output)
     }
 
     fn typed(&self, [output]: &mut Self::Lent) -> Self::Answer {
-        typed_answer(typed::header(self.tree).collect(self.file, output))
+        typed_answer(typed::header(&self.tree()).collect(self.file, output))
     }
 
     fn model(&self, [output]: &mut Self::Lent) -> Self::Answer {
-        let collected = model::collect(self.file, self.tree, output);
+        let collected = model::collect(self.file, &self.tree(), output);
         let counts = collected.counts;
         let [number, first, second] = array(collected.answer.map(|()| []));
         [
@@ -87,11 +94,28 @@ impl Case for Collecting<'_> {
         ]
     }
 
+    fn without_base(&self, [output]: &mut Self::Lent) -> Option<Self::Answer> {
+        let tree = self.tree();
+        Some(raw::collect(
+            self.part()?,
+            tree.tree_type,
+            tree.geometry.node_size,
+            tree.geometry.record_size,
+            tree.depth,
+            tree.root_address,
+            tree.root_records,
+            tree.total_records,
+            tree.geometry.offset_size,
+            output,
+        ))
+    }
+
     fn written(&self, answer: &Self::Answer) -> Vec<usize> {
         vec![self.put_out(answer)]
     }
 
     fn hold_to_rust(&self, ours: &Self::Answer, [output]: &Self::Lent) -> Option<Held> {
+        let part = self.part()?;
         let whole = match ours[0] {
             15 => self.model(&mut [vec![0; self.room]]),
             _ => *ours,
@@ -100,7 +124,7 @@ impl Case for Collecting<'_> {
             return None;
         }
         let case = || self.to_string();
-        let theirs = rust::collect(self.file, self.tree);
+        let theirs = rust::collect(part, &self.tree());
         let refused = theirs.as_ref().err().copied().unwrap_or_default();
         let held = same(&whole[..3], &refused, "the Rust", case);
         Some(held.and_then(|()| match theirs {
@@ -110,15 +134,15 @@ impl Case for Collecting<'_> {
     }
 
     /// The collecting into a buffer that the crate makes: what comes into a lent one as long as the
-    /// file.
+    /// part of the file.
     fn hold_others(&self, _: &Self::Answer, _: &Self::Lent) -> Held {
         if self.file.len() > TO_VEC {
             return Ok(());
         }
         let case = || format!("{self}, to a vector");
-        let lent = &mut [vec![0; self.file.len()]];
+        let lent = &mut [vec![0; self.part().map_or(0, <[u8]>::len)]];
         let answer = self.rattle(lent);
-        let collected = typed::header(self.tree).collect_to_vec(self.file);
+        let collected = typed::header(&self.tree()).collect_to_vec(self.file);
         let counts = collected.as_ref().map(|collected| collected.counts);
         let told = typed_answer(counts.map_err(|error| *error));
         same(told, answer, "the lent", case)?;
@@ -154,17 +178,36 @@ fn typed_answer(answer: Result<nuldrafon::Counts, nuldrafon::CollectError>) -> [
     ]
 }
 
-impl Collecting<'_> {
+impl<'a> Collecting<'a> {
+    pub fn of(file: &'a [u8], tree: &Tree, output_length: usize, room: usize) -> Collecting<'a> {
+        Collecting {
+            file,
+            header: tree.figures(),
+            offset_size: tree.geometry.offset_size,
+            output_length,
+            room,
+        }
+    }
+
+    /// The header that the figures come to.
+    fn tree(&self) -> Tree {
+        Tree::of_figures(self.header, self.offset_size)
+    }
+
+    fn record_size(&self) -> usize {
+        self.tree().geometry.record_size.into()
+    }
+
     /// The bytes of the records that an answer says were put out.
     fn put_out(&self, answer: &[u64; 7]) -> usize {
-        (answer[3] as usize).saturating_mul(self.tree.geometry.record_size.into())
+        (answer[3] as usize).saturating_mul(self.record_size())
     }
 
     /// Holds an answer and its output to the Rust's records: those that fit were put out, and 15
     /// came where there are more.
     fn hold_records(&self, ours: &[u64; 7], output: &[u8], records: &[u8]) -> Held {
         let case = || self.to_string();
-        let size = usize::from(self.tree.geometry.record_size).max(1);
+        let size = self.record_size().max(1);
         let fitting = (output.len() / size * size).min(records.len());
         let put = &output[..self.put_out(ours)];
         same_bytes(put, &records[..fitting], "the Rust's records", case)?;

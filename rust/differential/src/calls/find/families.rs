@@ -1,16 +1,20 @@
 //! Finding: the families of cases.
 
 use super::Search;
+use crate::compare::block;
+use crate::compare::causes::{with_causes, with_high_bits};
 use crate::compare::graft::{grafted, Records};
 use crate::compare::keyed::{self, any_field, around, limits, Order, ORDERS};
 use crate::compare::sample::{any_sizes, small_sizes, Sample, Sizes};
 use crate::compare::{Comparison, Held};
-use crate::inputs::{Field, Tree};
+use crate::inputs::Field;
 use crate::model::key_of;
 use crate::random::Random;
 
-/// Trees at any geometry, made-up headers for each small file, and random graphs of nodes.
+/// Trees at any geometry, in files without and with a block, made-up headers for each small file,
+/// and random graphs of nodes.
 const TREES: usize = 8_000;
+const BLOCKS: usize = 2_000;
 const HEADERS: usize = 2_000;
 const GRAPHS: usize = 100_000;
 /// Images up to this long get every damage of a byte.
@@ -243,68 +247,66 @@ pub fn with_made_up_headers(to: &mut Comparison, random: &mut Random) -> Held {
     })
 }
 
-/// The figures with some made larger by multiples of their fields' ranges.
-fn with_high_bits(mut figures: [u64; 7], random: &mut Random) -> [u64; 7] {
-    for (place, bits) in [(0, 8), (1, 32), (2, 16), (3, 16), (5, 16)] {
-        if random.up_to(1) == 0 {
-            figures[place] += random.any_magnitude(u64::MAX >> bits) << bits;
-        }
-    }
-    figures
-}
-
-/// Several causes at once, over the small files: no records, a record size of 0, a tree too deep, a
-/// wrong field, and any offset size in a file that is whole or empty.
+/// Several causes at once, over the small files, a wrong field among them.
 pub fn with_several_causes(to: &mut Comparison, random: &mut Random) -> Held {
     for_each(to, random, &[Order::Distinct], |to, keyed, random| {
         let whole = keyed.sample.tree;
         let keys = keyed.some(1, random);
-        for tree in with_causes(&whole) {
+        for (file, tree) in with_causes(&keyed.sample.file, &whole) {
             let size = u64::from(whole.geometry.record_size);
             let wrong = [(0, 0), (size, 1), (0, 9), (u64::MAX, 1)];
             let wrong = wrong.map(|(start, width)| Field::new(start, width));
             for key in [keyed.key].into_iter().chain(wrong) {
-                for file in [&keyed.sample.file[..], &[]] {
-                    let search = Search::of(file, &tree, key);
-                    to.hold_finds("several causes", search, keys.iter().copied())?;
-                }
+                let search = Search::of(file, &tree, key);
+                to.hold_finds("several causes", search, keys.iter().copied())?;
             }
         }
         Ok(())
     })
 }
 
-/// A header with every choice of causes.
-fn with_causes(whole: &Tree) -> Vec<Tree> {
-    let mut trees = vec![*whole];
-    trees = each(&trees, &[0, 1], |tree, total| tree.total_records *= total);
-    trees = each(&trees, &[0, 1], |tree, records| {
-        tree.root_records *= records as u16;
-    });
-    trees = each(&trees, &[0, 1], |tree, size| {
-        tree.geometry.record_size *= size as u16;
-    });
-    let depth = u64::from(whole.depth);
-    trees = each(&trees, &[depth, 33, 65_535], |tree, depth| {
-        tree.depth = depth as u16;
-    });
-    let size = u64::from(whole.geometry.offset_size);
-    trees = each(&trees, &[size, 0, 1, 3, 5, 6, 7, 9, 255], |tree, size| {
-        tree.geometry.offset_size = size as u8;
-    });
-    trees
+/// Every base of the small files, and huge ones: the root at its address, and where it stands.
+pub fn at_every_base(to: &mut Comparison, random: &mut Random) -> Held {
+    for_each(to, random, &[Order::Distinct], |to, keyed, random| {
+        for base in block::every(keyed.sample.file.len()) {
+            let mut search = keyed.search().at(base);
+            let keys = keyed.some(2, random);
+            to.hold_finds("every base", search, keys.clone())?;
+            search.header[4] = search.header[4].wrapping_sub(base);
+            to.hold_finds("every base", search, keys)?;
+        }
+        Ok(())
+    })
 }
 
-/// Each tree with each change.
-fn each(trees: &[Tree], changes: &[u64], change: fn(&mut Tree, u64)) -> Vec<Tree> {
-    let changed = trees.iter().flat_map(|&tree| {
-        changes.iter().map(move |&by| {
-            let mut tree = tree;
-            change(&mut tree, by);
-            tree
-        })
-    });
-    changed.collect()
+/// Trees behind blocks, at any geometry, with keys in any order: whole, from other bases, cut, and
+/// damaged.
+pub fn behind_blocks(to: &mut Comparison, random: &mut Random) -> Held {
+    for _ in 0..BLOCKS {
+        let (sizes, order) = (any_sizes(random), Order::any(random));
+        let by_rust = random.up_to(1) == 0;
+        let Some(mut keyed) = Keyed::new(to, (sizes, by_rust), order, random) else {
+            continue;
+        };
+        keyed.sample.put_behind(&block::block(random));
+        let keys = keyed.some(10, random);
+        to.hold_finds("behind blocks", keyed.search(), keys)?;
+        for base in block::some(keyed.sample.file.len(), random) {
+            let keys = keyed.some(1, random);
+            to.hold_finds("other bases", keyed.search().at(base), keys)?;
+        }
+        let [_, image] = keyed.sample.parts();
+        let cut = Search {
+            file: &keyed.sample.file[..random.up_to(image.end as u64 - 1) as usize],
+            ..keyed.search()
+        };
+        let keys = keyed.some(3, random);
+        to.hold_finds("behind blocks, cut", cut, keys.iter().copied())?;
+        let place = image.start + random.up_to(image.len() as u64 - 1) as usize;
+        keyed.sample.file[place] ^= 1 << random.up_to(7);
+        to.hold_finds("behind blocks, damaged", keyed.search(), keys)?;
+    }
+    Ok(())
 }
 
 /// Nodes that point at one another at random, deep ones and shared ones among them, with any keys,

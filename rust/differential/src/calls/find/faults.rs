@@ -1,6 +1,7 @@
 //! Faults of a find, for the suite to notice.
 
 use super::{numbers, Finding, Search};
+use crate::calls::based::{self, refuse, Based};
 use crate::calls::case::Told;
 use crate::calls::{Case, Fault};
 use crate::compare::keyed::most;
@@ -58,6 +59,7 @@ impl Way {
     fn find(&self, case: &Finding) -> [u64; 6] {
         let Search { file, key, .. } = case.search;
         let (tree, sought) = (case.search.tree(), case.sought);
+        let part = case.part().unwrap_or_default();
         let nodes = match Nodes::of(file, &tree) {
             Ok(Some(nodes)) if (self.fits)(key, nodes.record_size()) => nodes,
             _ => return case.model(&mut []),
@@ -74,7 +76,7 @@ impl Way {
             let place = |index: usize| node.place + index as u64 * size;
             let key_place = |index| place(index).wrapping_add(key.start);
             let keys: Vec<u64> = (0..count.into())
-                .map(|index| (self.number)(&bytes(file, key_place(index), key.width)))
+                .map(|index| (self.number)(&bytes(part, key_place(index), key.width)))
                 .collect();
             let index = (self.bound)(&keys, sought);
             if let Some(&key) = keys.get(index) {
@@ -112,12 +114,41 @@ fn bytes(file: &[u8], place: u64, width: u64) -> Vec<u8> {
 }
 
 pub fn faults<'a>() -> Vec<Fault<Finding<'a>>> {
-    let mut faults = of_the_bound();
+    let mut faults = based::faults();
+    faults.extend(of_the_base());
+    faults.extend(of_the_bound());
     faults.extend(of_what_is_kept());
     faults.extend(of_fields());
     faults.extend(of_the_tests());
     faults.extend(of_answers());
     faults
+}
+
+/// The base, beside the faults that every call with one has.
+fn of_the_base<'a>() -> Vec<Fault<Finding<'a>>> {
+    vec![
+        Fault::<Finding>::both("the base added to the place", |case, answer, _| {
+            answer[5] += answer[4] * case.base();
+        }),
+        Fault::<Finding>::model_alone("18 after an empty tree", |case, answer, _| {
+            if answer[0] == 18 && case.search.tree().is_empty() {
+                answer[0] = 0;
+            }
+        }),
+        Fault::<Finding>::model_alone("18 after 8", |case, answer, lent| {
+            let tree = case.search.tree();
+            if answer[0] == 18 && !tree.is_empty() && tree.geometry.record_size == 0 {
+                refuse(case, [8, 0, 0], answer, lent);
+            }
+        }),
+        Fault::<Finding>::model_alone("18 after 17", |case, answer, lent| {
+            let tree = case.search.tree();
+            let fits = model::fits(case.search.key, tree.geometry.record_size.into());
+            if answer[0] == 18 && !tree.is_empty() && !fits {
+                refuse(case, [17, 0, 0], answer, lent);
+            }
+        }),
+    ]
 }
 
 /// The record that bounds, and the child taken.

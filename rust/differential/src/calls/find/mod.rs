@@ -7,6 +7,7 @@ use std::fmt;
 
 use nuldrafon::raw;
 
+use super::based::Based;
 use super::case::{array, Case, Fault, Told};
 use super::collect::Collecting;
 use super::typed;
@@ -15,8 +16,8 @@ use crate::compare::{same, Comparison, Held};
 use crate::inputs::{Field, Tree};
 use crate::model;
 pub use families::{
-    as_written, at_the_limits_of_fields, cut, damaged, of_any_geometry, of_many_records,
-    of_random_graphs, with_made_up_headers, with_several_causes,
+    as_written, at_every_base, at_the_limits_of_fields, behind_blocks, cut, damaged,
+    of_any_geometry, of_many_records, of_random_graphs, with_made_up_headers, with_several_causes,
 };
 
 /// Where a key is looked for: a file, a header's figures as they go over, the offset size, and the
@@ -24,7 +25,7 @@ pub use families::{
 #[derive(Clone, Copy)]
 pub struct Search<'a> {
     pub file: &'a [u8],
-    pub header: [u64; 7],
+    pub header: [u64; 8],
     pub offset_size: u8,
     pub key: Field,
 }
@@ -39,6 +40,13 @@ impl<'a> Search<'a> {
         }
     }
 
+    /// The same with another base.
+    fn at(&self, base: u64) -> Search<'a> {
+        let mut other = *self;
+        other.header[7] = base;
+        other
+    }
+
     /// The header that the figures come to.
     fn tree(&self) -> Tree {
         Tree::of_figures(self.header, self.offset_size)
@@ -46,6 +54,7 @@ impl<'a> Search<'a> {
 }
 
 /// A find, and what collecting says of the same tree where that was asked.
+#[derive(Clone, Copy)]
 pub struct Finding<'a> {
     pub search: Search<'a>,
     pub sought: u64,
@@ -102,6 +111,23 @@ impl fmt::Display for Finding<'_> {
     }
 }
 
+impl Based for Finding<'_> {
+    fn file(&self) -> &[u8] {
+        self.search.file
+    }
+
+    fn base(&self) -> u64 {
+        self.search.header[7]
+    }
+
+    fn at(&self, base: u64) -> Self {
+        Finding {
+            search: self.search.at(base),
+            ..*self
+        }
+    }
+}
+
 impl Case for Finding<'_> {
     type Answer = [u64; 6];
     type Lent = [Vec<u8>; 0];
@@ -118,7 +144,7 @@ impl Case for Finding<'_> {
             key,
         } = self.search;
         let Field { start, width } = key;
-        raw::find(file, &header, offset_size, start, width, self.sought)
+        raw::find_at(file, &header, offset_size, start, width, self.sought)
     }
 
     fn typed(&self, _: &mut Self::Lent) -> Self::Answer {
@@ -135,6 +161,24 @@ impl Case for Finding<'_> {
         let found = model::find(file, &self.search.tree(), key, self.sought);
         let told = array(found.answer.map(|_| []));
         numbers(told, found.nodes, found.answer.unwrap_or(None))
+    }
+
+    fn without_base(&self, _: &mut Self::Lent) -> Option<Self::Answer> {
+        let Search {
+            header: [figures @ .., _],
+            offset_size,
+            key: Field { start, width },
+            ..
+        } = self.search;
+        let part = self.part()?;
+        Some(raw::find(
+            part,
+            &figures,
+            offset_size,
+            start,
+            width,
+            self.sought,
+        ))
     }
 
     fn outcome(&self, answer: &Self::Answer) -> Option<&'static str> {
@@ -159,8 +203,7 @@ impl Case for Finding<'_> {
         let case = || self.to_string();
         let tree = self.search.tree();
         let [number, _, _, nodes, found, place] = *ours;
-        let empty = tree.total_records == 0 || tree.root_records == 0;
-        let levels = match empty {
+        let levels = match tree.is_empty() {
             true => 0,
             false => u64::from(tree.depth) + 1,
         };
@@ -173,7 +216,8 @@ impl Case for Finding<'_> {
             0 => same(place, 0, "a place of nothing", case)?,
             _ => {
                 let size = usize::from(tree.geometry.record_size);
-                let record = self.search.file.get(place as usize..place as usize + size);
+                let place = place as usize;
+                let record = self.part().and_then(|part| part.get(place..place + size));
                 let own = record.map(|record| model::key_of(record, self.search.key));
                 same(own, Some(self.sought), "the record found has", case)?;
             }
@@ -226,7 +270,8 @@ impl Comparison {
         let size = usize::from(tree.geometry.record_size);
         let collecting = Collecting {
             file,
-            tree,
+            header: search.header,
+            offset_size: search.offset_size,
             output_length: listed.records.len() * size,
             room: 0,
         };

@@ -1,5 +1,6 @@
 //! Records of one leaf: the families of cases.
 
+use crate::compare::block;
 use crate::compare::nodes::Form;
 use crate::compare::sample::{self, for_each, Sample};
 use crate::compare::{Comparison, Held};
@@ -7,8 +8,10 @@ use crate::inputs::Leaf;
 use crate::model::Geometry;
 use crate::random::Random;
 
-/// Trees at any geometry, made-up numbers for each small file, and looks at each large leaf.
+/// Trees at any geometry, in files without and with a block, made-up numbers for each small file,
+/// and looks at each large leaf.
 const TREES: usize = 3_000;
+const BLOCKS: usize = 2_000;
 const MADE_UP: usize = 500;
 const LOOKS: usize = 40;
 /// Leaves up to this long get every damage of a byte.
@@ -83,6 +86,55 @@ pub fn damaged(to: &mut Comparison, random: &mut Random) -> Held {
     })
 }
 
+/// Every base of the small files, and huge ones: a leaf at its address, and where it stands.
+pub fn at_every_base(to: &mut Comparison, random: &mut Random) -> Held {
+    for_each(to, random, |to, sample, random| {
+        let whole = one_of(sample, random);
+        for base in block::every(sample.file.len()) {
+            for address in [whole.address, whole.address.wrapping_sub(base)] {
+                let leaf = Leaf {
+                    base,
+                    address,
+                    ..whole
+                };
+                let looks = [any_look(&leaf, random)];
+                to.hold_looks("every base", &sample.file, &leaf, looks)?;
+            }
+        }
+        Ok(())
+    })
+}
+
+/// Leaves behind blocks, at any geometry: as they are, from other bases, with a record size of 0,
+/// cut, and damaged.
+pub fn behind_blocks(to: &mut Comparison, random: &mut Random) -> Held {
+    for _ in 0..BLOCKS {
+        let Some(mut sample) = sample::any_behind_a_block(to.by, random) else {
+            continue;
+        };
+        let leaf = one_of(&sample, random);
+        let looks = [(); 4].map(|()| any_look(&leaf, random));
+        to.hold_looks("behind blocks", &sample.file, &leaf, looks)?;
+        for base in block::some(sample.file.len(), random) {
+            for record_size in [leaf.record_size, 0] {
+                let leaf = Leaf {
+                    base,
+                    record_size,
+                    ..leaf
+                };
+                let looks = [any_look(&leaf, random)];
+                to.hold_looks("other bases", &sample.file, &leaf, looks)?;
+            }
+        }
+        let place = leaf.base + leaf.address + random.up_to(length_of(&leaf) - 1);
+        let cut = &sample.file[..place as usize];
+        to.hold_looks("behind blocks, cut", cut, &leaf, looks)?;
+        sample.file[place as usize] ^= 1 << random.up_to(7);
+        to.hold_looks("behind blocks, damaged", &sample.file, &leaf, looks)?;
+    }
+    Ok(())
+}
+
 /// Leaves with some numbers made up, over the small files, some of which end soon after the records
 /// that are asked for.
 pub fn with_made_up_numbers(to: &mut Comparison, random: &mut Random) -> Held {
@@ -108,13 +160,14 @@ pub fn with_made_up_numbers(to: &mut Comparison, random: &mut Random) -> Held {
 fn made_up(sample: &Sample, random: &mut Random) -> Leaf {
     let mut leaf = one_of(sample, random);
     for _ in 0..=random.up_to(1) {
-        match random.up_to(6) {
+        match random.up_to(7) {
             0 => leaf.address = sample.any_address(random),
             1 => leaf.count = random.any_magnitude(u16::MAX.into()) as u16,
             2 => leaf.count = random.up_to(leaf.count.into()) as u16,
             3 => leaf.record_size = random.any_magnitude(u16::MAX.into()) as u16,
             4 => leaf.record_size = random.up_to(leaf.record_size.into()) as u16,
             5 => (leaf.count, leaf.record_size) = (leaf.record_size, leaf.count),
+            6 => leaf.base = sample.any_base(random),
             _ => {}
         }
     }
@@ -137,6 +190,7 @@ pub fn of_many_bytes(to: &mut Comparison, random: &mut Random) -> Held {
         let records = random.bytes(usize::from(count) * usize::from(record_size));
         let [front, end] = [30, 20].map(|most| random.up_to(most) as usize);
         let leaf = Leaf {
+            base: 0,
             address: front as u64,
             count,
             record_size,

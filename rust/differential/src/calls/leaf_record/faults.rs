@@ -1,13 +1,15 @@
 //! Faults of a look at a leaf, for the suite to notice.
 
 use super::Look;
+use crate::calls::based::{self, refuse, Based};
 use crate::calls::Fault;
 
 /// Hands out a record that begins so many bytes after the first, where file and output have it.
 fn hand_out(look: &Look, after: u64, answer: &mut [u64; 3], output: &mut [u8]) {
     let size = usize::from(look.leaf.record_size);
     let from = (look.leaf.address + 6 + after) as usize;
-    if let (Some(bytes), Some(place)) = (look.file.get(from..from + size), output.get_mut(..size)) {
+    let bytes = look.part().and_then(|part| part.get(from..from + size));
+    if let (Some(bytes), Some(place)) = (bytes, output.get_mut(..size)) {
         place.copy_from_slice(bytes);
         *answer = [0, size as u64, 0];
     }
@@ -20,12 +22,14 @@ fn hand_out_at(look: &Look, index: u64, answer: &mut [u64; 3], output: &mut [u8]
 }
 
 pub fn faults<'a>() -> Vec<Fault<Look<'a>>> {
-    let mut faults = of_records();
+    let mut faults = based::faults();
+    faults.extend(of_records());
     faults.extend([
         Fault::<Look>::both(
             "a checksum asked for where its bytes are not there",
             |look, answer, _| {
-                let (leaf, length) = (look.leaf, look.file.len() as u64);
+                let (leaf, part) = (look.leaf, look.part().unwrap_or_default());
+                let length = part.len() as u64;
                 let records = u64::from(leaf.count) * u64::from(leaf.record_size);
                 if answer[0] == 0 && leaf.address + 6 + records + 3 == length {
                     *answer = [1, length + 1, length];
@@ -43,6 +47,11 @@ pub fn faults<'a>() -> Vec<Fault<Look<'a>>> {
         Fault::<Look>::both("a refused look that writes", |_, answer, [output]| {
             if let (15, Some(byte)) = (answer[0], output.first_mut()) {
                 *byte ^= 1;
+            }
+        }),
+        Fault::<Look>::model_alone("18 after 8", |look, answer, lent| {
+            if answer[0] == 18 && look.leaf.record_size == 0 {
+                refuse(look, [8, 0, 0], answer, lent);
             }
         }),
         Fault::<Look>::model_alone("record size 0 accepted", |_, answer, _| {

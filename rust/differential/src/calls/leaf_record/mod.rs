@@ -7,28 +7,45 @@ use std::fmt;
 
 use nuldrafon::{raw, LeafView, Refusal};
 
+use super::based::Based;
 use super::case::{array, Case, Fault};
 use crate::compare::bytes::{beginning, pattern, same_bytes};
 use crate::compare::{rust, same, Comparison, Held};
 use crate::inputs::Leaf;
 use crate::model;
 pub use families::{
-    as_written, cut, damaged, of_any_geometry, of_many_bytes, with_made_up_numbers,
+    as_written, at_every_base, behind_blocks, cut, damaged, of_any_geometry, of_many_bytes,
+    with_made_up_numbers,
 };
 
 /// The Rust's records of a leaf, or the number and values of its refusal.
-type Records = Result<Vec<Vec<u8>>, [u64; 3]>;
+pub type Records = Result<Vec<Vec<u8>>, [u64; 3]>;
 
 /// A look at a leaf of a file, and the Rust's records of it where that is asked.
+#[derive(Clone, Copy)]
 pub struct Look<'a> {
-    file: &'a [u8],
-    leaf: &'a Leaf,
-    index: u64,
-    output_length: usize,
-    theirs: Option<&'a Records>,
+    pub file: &'a [u8],
+    pub leaf: Leaf,
+    pub index: u64,
+    pub output_length: usize,
+    pub theirs: Option<&'a Records>,
 }
 
-impl Look<'_> {
+impl<'a> Look<'a> {
+    /// The crate's view of the leaf.
+    fn view(&self) -> Result<LeafView<'a>, Refusal> {
+        let Leaf {
+            base,
+            address,
+            count,
+            record_size,
+        } = self.leaf;
+        match base {
+            0 => LeafView::new(self.file, address, count, record_size),
+            _ => LeafView::new_at(self.file, base, address, count, record_size),
+        }
+    }
+
     /// What the Rust's records say: an index behind them is that of an empty one, and 15 comes
     /// where the record is longer than the output.
     fn expected<'r>(&self, theirs: &'r Records) -> ([u64; 3], &'r [u8]) {
@@ -45,12 +62,7 @@ impl Look<'_> {
 
     /// The record by the crate's view, copied to the front of the output where it fits.
     fn viewed(&self, output: &mut [u8]) -> Result<[u64; 1], Refusal> {
-        let Leaf {
-            address,
-            count,
-            record_size,
-        } = *self.leaf;
-        let view = LeafView::new(self.file, address, count, record_size)?;
+        let view = self.view()?;
         let record = view.record(self.index as usize).unwrap_or_default();
         let too_short = Refusal::OutputTooShort(output.len() as u64);
         let front = output.get_mut(..record.len()).ok_or(too_short)?;
@@ -72,6 +84,21 @@ impl fmt::Display for Look<'_> {
     }
 }
 
+impl Based for Look<'_> {
+    fn file(&self) -> &[u8] {
+        self.file
+    }
+
+    fn base(&self) -> u64 {
+        self.leaf.base
+    }
+
+    fn at(&self, base: u64) -> Self {
+        let leaf = Leaf { base, ..self.leaf };
+        Look { leaf, ..*self }
+    }
+}
+
 impl Case for Look<'_> {
     type Answer = [u64; 3];
     type Lent = [Vec<u8>; 1];
@@ -82,11 +109,20 @@ impl Case for Look<'_> {
 
     fn rattle(&self, [output]: &mut Self::Lent) -> Self::Answer {
         let Leaf {
+            base,
             address,
             count,
             record_size,
-        } = *self.leaf;
-        raw::leaf_record(self.file, address, count, record_size, self.index, output)
+        } = self.leaf;
+        raw::leaf_record_at(
+            self.file,
+            base,
+            address,
+            count,
+            record_size,
+            self.index,
+            output,
+        )
     }
 
     fn typed(&self, [output]: &mut Self::Lent) -> Self::Answer {
@@ -94,8 +130,26 @@ impl Case for Look<'_> {
     }
 
     fn model(&self, [output]: &mut Self::Lent) -> Self::Answer {
-        let length = model::leaf_record(self.file, self.leaf, self.index, output);
+        let length = model::leaf_record(self.file, &self.leaf, self.index, output);
         array(length.map(|length| [length]))
+    }
+
+    fn without_base(&self, [output]: &mut Self::Lent) -> Option<Self::Answer> {
+        let Leaf {
+            address,
+            count,
+            record_size,
+            ..
+        } = self.leaf;
+        let part = self.part()?;
+        Some(raw::leaf_record(
+            part,
+            address,
+            count,
+            record_size,
+            self.index,
+            output,
+        ))
     }
 
     fn written(&self, answer: &Self::Answer) -> Vec<usize> {
@@ -118,11 +172,9 @@ impl Case for Look<'_> {
     /// The view's records, one by one, in all and end to end.
     fn hold_others(&self, ours: &Self::Answer, _: &Self::Lent) -> Held {
         let Leaf {
-            address,
-            count,
-            record_size,
-        } = *self.leaf;
-        let Ok(view) = LeafView::new(self.file, address, count, record_size) else {
+            count, record_size, ..
+        } = self.leaf;
+        let Ok(view) = self.view() else {
             return Ok(());
         };
         let case = || self.to_string();
@@ -152,15 +204,22 @@ impl Comparison {
         leaf: &Leaf,
         looks: impl IntoIterator<Item = (u64, usize)>,
     ) -> Held {
+        let mut look = Look {
+            file,
+            leaf: *leaf,
+            index: 0,
+            output_length: 0,
+            theirs: None,
+        };
         let with_rust = oracle::AVAILABLE && leaf.record_size != 0;
-        let theirs = with_rust.then(|| rust::leaf(file, leaf));
+        let part = look.part().filter(|_| with_rust);
+        let theirs = part.map(|part| rust::leaf(part, leaf));
+        look.theirs = theirs.as_ref();
         for (index, output_length) in looks {
             let look = Look {
-                file,
-                leaf,
                 index,
                 output_length,
-                theirs: theirs.as_ref(),
+                ..look
             };
             self.hold(class, &look)?;
         }

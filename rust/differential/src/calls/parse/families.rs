@@ -1,36 +1,24 @@
-//! The header reader.
+//! The header reader: the families of cases.
 
-use std::fmt;
-
-use nuldrafon::{raw, Header};
-
-use super::case::{array, Case, Fault};
-use crate::compare::bytes::beginning;
+use super::Parsing;
+use crate::compare::block;
 use crate::compare::sample::{self, for_each, Sample};
-use crate::compare::{grid, rust, same, Comparison, Held};
-use crate::model::{self, lookup3};
+use crate::compare::{grid, same, Comparison, Held};
+use crate::model::lookup3;
 use crate::random::Random;
 
+/// Trees at any geometry, in files without and with a block, and files of any bytes.
 const TREES: usize = 10_000;
+const BLOCKS: usize = 3_000;
 const RANDOM: usize = 100_000;
 const SUM: usize = 4;
 
 /// Headers that the subject and the Rust wrote, at any geometry, read as they were written.
 pub fn as_written(to: &mut Comparison, random: &mut Random) -> Held {
     for _ in 0..TREES {
-        let Some(sample) = sample::any(to.by, random) else {
-            continue;
-        };
-        let case = header_of(&sample);
-        to.hold("as written", &case)?;
-        let answer = to.by.answer(&case, &mut []);
-        let shown = || format!("header of {:?}", sample.tree);
-        same(
-            &answer[1..],
-            &sample.tree.figures(),
-            "what was written",
-            shown,
-        )?;
+        if let Some(sample) = sample::any(to.by, random) {
+            to.hold_written("as written", &sample)?;
+        }
     }
     Ok(())
 }
@@ -39,8 +27,25 @@ pub fn as_written(to: &mut Comparison, random: &mut Random) -> Held {
 fn header_of(sample: &Sample) -> Parsing<'_> {
     Parsing {
         file: &sample.file,
+        base: sample.tree.base,
         offset: sample.header_at as u64,
         sizes: (sample.tree.geometry.offset_size, sample.length_size),
+    }
+}
+
+impl Comparison {
+    /// Holds the read of a sample's header to what was written, too.
+    fn hold_written(&mut self, class: &'static str, sample: &Sample) -> Held {
+        let case = header_of(sample);
+        self.hold(class, &case)?;
+        let answer = self.by.answer(&case, &mut []);
+        let shown = || format!("header of {:?}", sample.tree);
+        same(
+            &answer[1..],
+            &sample.tree.figures(),
+            "what was written",
+            shown,
+        )
     }
 }
 
@@ -105,6 +110,7 @@ pub fn any_bytes(to: &mut Comparison, random: &mut Random) -> Held {
         };
         let case = Parsing {
             file: &file,
+            base: 0,
             offset,
             sizes,
         };
@@ -113,72 +119,44 @@ pub fn any_bytes(to: &mut Comparison, random: &mut Random) -> Held {
     Ok(())
 }
 
-/// A header read. The sizes are those of offsets and of lengths.
-pub struct Parsing<'a> {
-    pub file: &'a [u8],
-    pub offset: u64,
-    pub sizes: (u8, u8),
+/// Every base of the small files, and huge ones: the header at its offset, and where it stands.
+pub fn at_every_base(to: &mut Comparison, random: &mut Random) -> Held {
+    for_each(to, random, |to, sample, _| {
+        let whole = header_of(sample);
+        for base in block::every(sample.file.len()) {
+            for offset in [whole.offset, whole.offset.wrapping_sub(base)] {
+                let case = Parsing {
+                    base,
+                    offset,
+                    ..whole
+                };
+                to.hold("every base", &case)?;
+            }
+        }
+        Ok(())
+    })
 }
 
-impl fmt::Display for Parsing<'_> {
-    fn fmt(&self, to: &mut fmt::Formatter) -> fmt::Result {
-        let Parsing {
-            file,
-            offset,
-            sizes: (offset_size, length_size),
-        } = self;
-        write!(
-            to,
-            "header at {offset}, sizes {offset_size} and {length_size}, {}",
-            beginning(file)
-        )
+/// Headers behind blocks, at any geometry: as they were written, from other bases, by other sizes,
+/// cut, and damaged.
+pub fn behind_blocks(to: &mut Comparison, random: &mut Random) -> Held {
+    for _ in 0..BLOCKS {
+        let Some(mut sample) = sample::any_behind_a_block(to.by, random) else {
+            continue;
+        };
+        to.hold_written("behind blocks", &sample)?;
+        let whole = header_of(&sample);
+        for base in block::some(sample.file.len(), random) {
+            to.hold("other bases", &Parsing { base, ..whole })?;
+        }
+        let sizes = (random.up_to(9) as u8, random.up_to(9) as u8);
+        to.hold("behind blocks", &Parsing { sizes, ..whole })?;
+        let [header, _] = sample.parts();
+        let file = &sample.file[..random.up_to(header.end as u64) as usize];
+        to.hold("behind blocks, cut", &Parsing { file, ..whole })?;
+        let place = header.start + random.up_to(header.len() as u64 - 1) as usize;
+        sample.file[place] ^= 1 << random.up_to(7);
+        to.hold("behind blocks, damaged", &header_of(&sample))?;
     }
-}
-
-impl Case for Parsing<'_> {
-    type Answer = [u64; 8];
-    type Lent = [Vec<u8>; 0];
-
-    fn lend(&self) -> Self::Lent {
-        []
-    }
-
-    fn rattle(&self, _: &mut Self::Lent) -> Self::Answer {
-        raw::parse(self.file, self.offset, self.sizes.0, self.sizes.1)
-    }
-
-    fn typed(&self, _: &mut Self::Lent) -> Self::Answer {
-        let header = Header::parse(self.file, self.offset, self.sizes.0, self.sizes.1);
-        array(header.map(|header| {
-            assert_eq!(header.geometry.offset_size, self.sizes.0);
-            header.figures()
-        }))
-    }
-
-    fn model(&self, _: &mut Self::Lent) -> Self::Answer {
-        let tree = model::parse(self.file, self.offset, self.sizes.0, self.sizes.1);
-        array(tree.map(|tree| tree.figures()))
-    }
-
-    fn hold_to_rust(&self, ours: &Self::Answer, _: &Self::Lent) -> Option<Held> {
-        let theirs = rust::parse(self.file, self.offset, self.sizes.0, self.sizes.1);
-        Some(same(*ours, theirs, "the Rust", || self.to_string()))
-    }
-
-    fn faults() -> Vec<Fault<Self>> {
-        vec![
-            Fault::<Self>::both("an end needed that is not held", |case, answer, _| {
-                answer[1] -= u64::from(answer[0] == 1 && case.offset == u64::MAX);
-            }),
-            Fault::<Self>::both("another checksum computed", |_, answer, _| {
-                answer[2] ^= u64::from(answer[0] == 6);
-            }),
-            Fault::<Self>::both("split percent tested", |case, answer, _| {
-                let split = case.file.get((case.offset as usize).saturating_add(14));
-                if answer[0] == 0 && split.is_some_and(|&split| split != 100) {
-                    *answer = [2, 0, 0, 0, 0, 0, 0, 0];
-                }
-            }),
-        ]
-    }
+    Ok(())
 }

@@ -1,4 +1,4 @@
-//! Finding: the points that document 02 leaves open, each on an input that tells readings apart.
+//! Finding.
 
 use differential::compare::nodes::{Form, Pointer};
 use differential::model::Geometry;

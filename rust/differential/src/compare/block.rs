@@ -1,0 +1,47 @@
+//! Blocks in front of a file's HDF5 part, and bases.
+
+use crate::random::Random;
+
+/// The most bytes of a block.
+const LONGEST: u64 = 200;
+
+/// Any bytes to put in front of a file, at times with the front of a header or a node in them.
+pub fn block(random: &mut Random) -> Vec<u8> {
+    let length = 1 + random.any_magnitude(LONGEST - 1) as usize;
+    let mut block = random.bytes(length);
+    let front = [b"BTHD\0\x05", b"BTLF\0\x05", b"BTIN\0\x05"][random.up_to(2) as usize];
+    match block.get_mut(..front.len()) {
+        Some(place) if random.up_to(1) == 0 => place.copy_from_slice(front),
+        _ => {}
+    }
+    block
+}
+
+/// Every base from 0 to one beyond a file of this length, and huge ones: some come to a base of the
+/// file where they are cut to 32 bits, or where a place in the file is added to them modulo 2^64.
+pub fn every(length: usize) -> impl Iterator<Item = u64> {
+    let length = length as u64;
+    (0..=length + 1).chain(huge(length))
+}
+
+/// Bases around a file's end, others in the file, and huge ones.
+pub fn some(length: usize, random: &mut Random) -> impl Iterator<Item = u64> {
+    let length = length as u64;
+    let any = random.up_to(length);
+    [0, any, length.saturating_sub(1), length, length + 1]
+        .into_iter()
+        .chain(huge(any))
+}
+
+/// Huge bases, some made of one in a file.
+fn huge(own: u64) -> [u64; 6] {
+    let last = u64::MAX;
+    [
+        1 << 32,
+        (1 << 32) + own,
+        1 << 63,
+        last - own,
+        last - 1,
+        last,
+    ]
+}
