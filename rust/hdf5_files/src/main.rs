@@ -104,7 +104,7 @@ fn run() -> Result<(), Fault> {
         }
     }
     done.print("files")?;
-    behind.print("those behind a block, with base 0 none of their trees")?;
+    behind.print("of these behind a block, where with base 0 no tree comes out")?;
     println!(
         "{} records found by their keys, {} of them those of another name with the same hash; {} \
          keys that are not there",
