@@ -43,9 +43,9 @@ pub fn put_plan(answer: &mut [u64; 5], planned: PlanAnswer)
     }
 }
 
-// The header's fields.
-pub fn put_header(answer: &mut [u64; 8], parsed: HeaderAnswer)
-    ensures { λ _. ⌜ now (answer .exit) ≡ cells 8 (headerAnswerOf parsed) ⌝ }
+// The header's fields, and behind them the base.
+pub fn put_header_at(answer: &mut [u64; 9], parsed: HeaderAnswer)
+    ensures { λ _. ⌜ now (answer .exit) ≡ cells 9 (headerAnswerOf parsed) ⌝ }
 {
     match parsed {
         HeaderAnswer::Parsed(header) => {
@@ -59,13 +59,32 @@ pub fn put_header(answer: &mut [u64; 8], parsed: HeaderAnswer)
                 header.root_node_address,
                 header.num_records_in_root as u64,
                 header.total_records,
+                header.base,
             ];
         }
         HeaderAnswer::Refused(cause) => {
             let code = cause.code();
-            *answer = [code.number, code.first, code.second, 0, 0, 0, 0, 0];
+            *answer = [code.number, code.first, code.second, 0, 0, 0, 0, 0, 0];
         }
     }
+}
+
+// The header's fields without the base.
+pub fn put_header(answer: &mut [u64; 8], parsed: HeaderAnswer)
+    ensures { λ _. ⌜ now (answer .exit) ≡ cells 8 (headerAnswerOf parsed) ⌝ }
+{
+    let mut all = [0u64; 9];
+    put_header_at(&mut all, parsed);
+    *answer = [
+        all[0],
+        all[1],
+        all[2],
+        all[3],
+        all[4],
+        all[5],
+        all[6],
+        all[7],
+    ];
 }
 
 // The refusal's number and values, zeros where the run is accepted, and the counts of both.

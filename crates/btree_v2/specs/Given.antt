@@ -16,9 +16,9 @@ abbrev pub asked : ℕ → ℕ → Geometry → ℕ → ℕ → Request
 asked treeType n g lw start =
     record { «tree_type» = treeType; «record_count» = n; geometry = g; «length_size» = lw; start = start }
 
--- The header that a collecting goes by.
-abbrev pub given : ℕ → Geometry → ℕ → ℕ → ℕ → ℕ → BTreeV2Header
-given treeType g depth root rootRecords records =
+-- The header that a collecting goes by, and its base.
+abbrev pub given : ℕ → Geometry → ℕ → ℕ → ℕ → ℕ → ℕ → BTreeV2Header
+given treeType g depth root rootRecords records base =
     record {
       «tree_type» = treeType;
       geometry = g;
@@ -26,10 +26,11 @@ given treeType g depth root rootRecords records =
       «root_node_address» = root;
       «num_records_in_root» = rootRecords;
       «total_records» = records;
+      base = base;
     }
 
--- The header that its seven figures tell: type, NS, RS, depth, root address, root's records and N, in the order of the header reader's answer.
--- A number above its field's range counts modulo that range.
+-- The header that its figures tell: type, NS, RS, depth, root address, root's records, N and base, in the order of the header reader's answer.
+-- Where there are seven, the base is 0. A number above its field's range counts modulo that range.
 abbrev pub headerOf : List ℕ → ℕ → BTreeV2Header
 headerOf figures ow =
     given
@@ -39,6 +40,7 @@ headerOf figures ow =
     (getD figures 4 0)
     (getD figures 5 0 % 2 ^ 16)
     (getD figures 6 0)
+    (getD figures 7 0)
 
 -- A field of a record.
 abbrev pub fieldAt : ℕ → ℕ → Field

@@ -2,14 +2,16 @@
 // number, 0 where the call is accepted, then the figures or the refusal's values, then zeros.
 
 ghost use mathlib.Core.Path.{_≡_};
+ghost use Prim.Native.Nat.{_≤_};
+ghost use lib.ListN.{length, getD};
 ghost use Rattle.refusal.specs.Answer.{cells};
 ghost use Rattle.node_info.specs.Table.{tabled};
 ghost use Rattle.plan.specs.Planned.{planAnswer};
 ghost use Rattle.write_checks.specs.Writing.{written, headerExit, imageExit};
-ghost use Rattle.btree_v2_header.specs.Header.{parsed};
-ghost use Rattle.btree_v2_collect.specs.Collect.{collected, runCells, runOutput};
-ghost use Rattle.btree_v2_find.specs.Find.{descended, findCells};
-ghost use Rattle.btree_v2_leaf_view.specs.Look.{recordAnswer, recordExit};
+ghost use Rattle.btree_v2_header.specs.Header.{parsed, parsedAt};
+ghost use Rattle.btree_v2_collect.specs.Collect.{collected, collectedAt, runCells, runOutput};
+ghost use Rattle.btree_v2_find.specs.Find.{found, foundAt};
+ghost use Rattle.btree_v2_leaf_view.specs.Look.{recordAnswer, recordExit, recordAnswerAt, recordExitAt};
 ghost use Rattle.btree_v2.specs.Given.{sizes, asked, given, headerOf, fieldAt};
 use btree_v2_collect::collect;
 use btree_v2_header::BTreeV2Header;
@@ -110,8 +112,24 @@ pub extern "C" fn btree_v2_parse(
 )
     ensures { λ _. ⌜ now (answer .exit) ≡ cells 8 (parsed (now (file .entry)) offset «offset_size» «length_size») ⌝ }
 {
-    let parsed = BTreeV2Header::parse(file, offset, offset_size, length_size);
+    let parsed = BTreeV2Header::parse(file, 0, offset, offset_size, length_size);
     answers::put_header(answer, parsed);
+}
+
+// The header at an offset of the part of a file from a base on: the same figures, and behind them the base.
+#[no_mangle]
+pub extern "C" fn btree_v2_parse_at(
+    file: &[u8],
+    base: u64,
+    offset: u64,
+    offset_size: u8,
+    length_size: u8,
+    answer: &mut [u64; 9],
+)
+    ensures { λ _. ⌜ now (answer .exit) ≡ cells 9 (parsedAt (now (file .entry)) base offset «offset_size» «length_size») ⌝ }
+{
+    let parsed = BTreeV2Header::parse(file, base, offset, offset_size, length_size);
+    answers::put_header_at(answer, parsed);
 }
 
 // The records of a header's tree put out. The answer has the refusal's number and two values, zeros where the call is accepted, and then,
@@ -131,9 +149,9 @@ pub extern "C" fn btree_v2_collect(
     answer: &mut [u64; 7],
 )
     ensures answered { λ _. ⌜ now (answer .exit) ≡ runCells (collected (now (file .entry))
-        (given «tree_type» (sizes «node_size» «record_size» «offset_size») depth «root_address» «root_records» «total_records») (now (output .entry))) ⌝ }
+        (given «tree_type» (sizes «node_size» «record_size» «offset_size») depth «root_address» «root_records» «total_records» 0) (now (output .entry))) ⌝ }
     ensures outputLeft { λ _. ⌜ now (output .exit) ≡ runOutput (collected (now (file .entry))
-        (given «tree_type» (sizes «node_size» «record_size» «offset_size») depth «root_address» «root_records» «total_records») (now (output .entry))) ⌝ }
+        (given «tree_type» (sizes «node_size» «record_size» «offset_size») depth «root_address» «root_records» «total_records» 0) (now (output .entry))) ⌝ }
 {
     let geometry = Geometry {
         node_size,
@@ -147,13 +165,25 @@ pub extern "C" fn btree_v2_collect(
         root_node_address: root_address,
         num_records_in_root: root_records,
         total_records,
+        base: 0,
     };
     let collected = collect::collect_btree_v2_records(file, header, output);
     answers::put_collected(answer, collected);
 }
 
-// The header that its figures tell, as btree_v2_parse gives them; a number above its field's range counts modulo that range.
-fn header_of(figures: &[u64; 7], offset_size: u8) -> BTreeV2Header
+// The base of a header's figures: the eighth, 0 where there are seven.
+fn base_of(figures: &[u64]) -> u64
+    ensures { λ r. ⌜ r ≡ getD (now (figures .entry)) 7 0 ⌝ }
+{
+    if figures.len() < 8 {
+        return 0;
+    }
+    figures[7]
+}
+
+// The header that its figures tell, as btree_v2_parse or btree_v2_parse_at gives them; a number above its field's range counts modulo that range.
+fn header_of(figures: &[u64], offset_size: u8) -> BTreeV2Header
+    requires { ⌜ 7 ≤ length (now figures) ⌝ }
     ensures { λ r. ⌜ r ≡ headerOf (now (figures .entry)) «offset_size» ⌝ }
 {
     let geometry = Geometry {
@@ -168,7 +198,24 @@ fn header_of(figures: &[u64; 7], offset_size: u8) -> BTreeV2Header
         root_node_address: figures[4],
         num_records_in_root: (figures[5] % 0x1_0000) as u16,
         total_records: figures[6],
+        base: base_of(figures),
     }
+}
+
+// The records of a header's tree put out, its addresses counted from the header's base on.
+#[no_mangle]
+pub extern "C" fn btree_v2_collect_at(
+    file: &[u8],
+    header: &[u64; 8],
+    offset_size: u8,
+    output: &mut [u8],
+    answer: &mut [u64; 7],
+)
+    ensures answered { λ _. ⌜ now (answer .exit) ≡ runCells (collectedAt (now (file .entry)) (headerOf (now (header .entry)) «offset_size») (now (output .entry))) ⌝ }
+    ensures outputLeft { λ _. ⌜ now (output .exit) ≡ runOutput (collectedAt (now (file .entry)) (headerOf (now (header .entry)) «offset_size») (now (output .entry))) ⌝ }
+{
+    let collected = collect::collect_btree_v2_records(file, header_of(header, offset_size), output);
+    answers::put_collected(answer, collected);
 }
 
 // The record of a header's tree that has the key sought in this field. The answer has the refusal's number and two values, zeros where the
@@ -183,8 +230,28 @@ pub extern "C" fn btree_v2_find(
     key: u64,
     answer: &mut [u64; 6],
 )
-    ensures { λ _. ⌜ now (answer .exit) ≡ findCells (now (file .entry)) (fieldAt «key_start» «key_width») key
-        (descended (now (file .entry)) (headerOf (now (header .entry)) «offset_size») (fieldAt «key_start» «key_width») key) ⌝ }
+    ensures { λ _. ⌜ now (answer .exit) ≡ found (now (file .entry)) (headerOf (now (header .entry)) «offset_size») (fieldAt «key_start» «key_width») key ⌝ }
+{
+    let field = Field {
+        start: key_start,
+        width: key_width,
+    };
+    let found = btree_v2_find::find(file, header_of(header, offset_size), field, key);
+    answers::put_found(answer, found);
+}
+
+// The same in the part of a file from the header's base on, in which the record's place is counted too.
+#[no_mangle]
+pub extern "C" fn btree_v2_find_at(
+    file: &[u8],
+    header: &[u64; 8],
+    offset_size: u8,
+    key_start: u64,
+    key_width: u64,
+    key: u64,
+    answer: &mut [u64; 6],
+)
+    ensures { λ _. ⌜ now (answer .exit) ≡ foundAt (now (file .entry)) (headerOf (now (header .entry)) «offset_size») (fieldAt «key_start» «key_width») key ⌝ }
 {
     let field = Field {
         start: key_start,
@@ -208,6 +275,25 @@ pub extern "C" fn btree_v2_leaf_record(
     ensures answered { λ _. ⌜ now (answer .exit) ≡ cells 3 (recordAnswer (now (file .entry)) «record_size» address count index (now (output .entry))) ⌝ }
     ensures outputLeft { λ _. ⌜ now (output .exit) ≡ recordExit (now (file .entry)) «record_size» address count index (now (output .entry)) ⌝ }
 {
-    let copied = copy_leaf_record(file, address, count, record_size, index, output);
+    let copied = copy_leaf_record(file, 0, address, count, record_size, index, output);
+    answers::put_record(answer, copied);
+}
+
+// Record `index` of a leaf in the part of a file from a base on.
+#[no_mangle]
+pub extern "C" fn btree_v2_leaf_record_at(
+    file: &[u8],
+    base: u64,
+    address: u64,
+    count: u16,
+    record_size: u16,
+    index: u64,
+    output: &mut [u8],
+    answer: &mut [u64; 3],
+)
+    ensures answered { λ _. ⌜ now (answer .exit) ≡ cells 3 (recordAnswerAt (now (file .entry)) base «record_size» address count index (now (output .entry))) ⌝ }
+    ensures outputLeft { λ _. ⌜ now (output .exit) ≡ recordExitAt (now (file .entry)) base «record_size» address count index (now (output .entry)) ⌝ }
+{
+    let copied = copy_leaf_record(file, base, address, count, record_size, index, output);
     answers::put_record(answer, copied);
 }

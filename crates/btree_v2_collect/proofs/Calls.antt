@@ -1,4 +1,4 @@
--- The whole call: nothing to read, its two refusals, and the walk from the root on.
+-- Collecting from a part of a file: nothing to read, the two refusals before the root, and the walk from the root on.
 use mathlib.Core.Path.{_≡_, refl, sym, ap, _∙_}
 use mathlib.Core.List.{List, _++_}
 use Prim.Native.Nat.{ℕ, _+_, _*_, _^_, _≤_, _<_, zero-le}
@@ -20,7 +20,7 @@ use Rattle.refusal.proofs.Answers.{refused-is}
 use Rattle.node_info.specs.declared.NodeInfo.{NodeInfo}
 use Rattle.node_info.specs.Table.{infoAt, noInfo}
 use Rattle.node_info.proofs.Columns.{column-length, total-entry}
-use Rattle.btree_v2_collect.specs.Walk.{Run, fine, stopped, noCounts, nodeRun}
+use Rattle.btree_v2_collect.specs.Walk.{Run, fine, stopped, ifPassed, noCounts, nodeRun}
 use Rattle.btree_v2_collect.specs.Collect.{collected, collectTests, countCells, runCells, runOutput}
 use Rattle.btree_v2_collect.proofs.Outcomes.{collected-empty, collected-root}
 use Rattle.read_checks.specs.Tests.{noRecords, rootTest}
@@ -29,8 +29,9 @@ use Rattle.btree_v2_header.specs.declared.BTreeV2Header.{BTreeV2Header}
 use Rattle.refusal.specs.declared.Verdict.{Verdict}
 use Rattle.refusal.specs.declared.Verdict.the-variants.{Accepted, Refused}
 use Rattle.btree_v2_collect.specs.declared.Tally.{Tally}
+use Rattle.btree_v2_collect.specs.declared.Collected.{Collected}
 use Rattle.btree_v2_collect.specs.Answers.{Ends}
-use Rattle.btree_v2_collect.specs.Collecting.{countsOf, tallyOf, runOf, saturatedRun, Readable, RootRead, Walked}
+use Rattle.btree_v2_collect.specs.Collecting.{countsOf, tallyOf, endedBy, runOf, saturatedRun, Readable, RootRead, Walked}
 use Rattle.btree_v2_collect.proofs.Holding.{saturated-saturated}
 use Rattle.node_info.specs.declared.Geometry.{Geometry}
 
@@ -73,19 +74,20 @@ walked-ends g x v t o walked r e small =
       sym (sym (output-saturated x) ∙ ap runOutput (sym (walked .ends)) ∙ output-saturated (runOf v t o) ∙ output-of v t o),
     )
 
-abbrev nothing : Tally
-nothing = record { records = 0; leaves = 0; internals = 0; «internal_records» = 0 }
+-- Nothing is read, and the verdict is all there is to tell.
+pub ends-so : (v : Verdict) (o : List ℕ) (x : Run) → x ≡ ifPassed (verdictOf v) noCounts o (fine noCounts o) → (r : Collected) → r ≡ endedBy v → Ends x r o
+unfolding runCells
+ends-so Accepted o x e r is = rw (e, is) (refl, refl)
+ends-so (Refused q) o x e r is = rw (e, is, refused-is q .2) (refl, refl)
 
 -- A tree without records, as `empty` says, and one that the tests before the root refuse or pass.
 module _ (file : List ℕ) (h : BTreeV2Header) (o : List ℕ) (empty : Bool) (says : empty ≡ noRecords (h .«total_records») (h .«num_records_in_root»)) where
-  pub no-records : empty ≡ true → Ends (collected file h o) (record { verdict = Accepted; tally = nothing }) o
-  unfolding runCells
-  no-records e = rw (collected-empty file h o (sym says ∙ e)) (refl, refl)
+  pub no-records : empty ≡ true → (r : Collected) → r ≡ endedBy Accepted → Ends (collected file h o) r o
+  no-records e = ends-so Accepted o _ (collected-empty file h o (sym says ∙ e))
 
   pub root-refused : empty ≡ false → (v : Verdict) → verdictOf v ≡ rootTest (h .geometry .«record_size») (h .depth) → (q : Refusal) → v ≡ Refused q
-      → Ends (collected file h o) (record { verdict = v; tally = nothing }) o
-  unfolding runCells
-  root-refused some v tested q e = rw (collected-root file h o (sym says ∙ some), ← tested, e, refused-is q .2) (refl, refl)
+      → (r : Collected) → r ≡ endedBy v → Ends (collected file h o) r o
+  root-refused some v tested q e = ends-so v o _ (collected-root file h o (sym says ∙ some) ∙ rw (← tested, e, refused-is q .2))
 
 pub root-read : (h : BTreeV2Header) (empty : Bool) → empty ≡ noRecords (h .«total_records») (h .«num_records_in_root») → empty ≡ false
     → (v : Verdict) → verdictOf v ≡ rootTest (h .geometry .«record_size») (h .depth) → v ≡ Accepted → RootRead h

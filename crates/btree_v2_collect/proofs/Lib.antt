@@ -1,5 +1,6 @@
 -- The laws that the crate's proofs cite.
 mod Calls
+pub mod Bases
 mod Holding
 mod Putting
 mod Steps

@@ -1,4 +1,4 @@
--- What collecting answers of any file: document 01, "Collecting".
+-- What collecting answers of any file: document 01, "Collecting", and document 02, "Two".
 use Prim.Native.Nat.{ℕ}
 use mathlib.Core.Bool.{not}
 use mathlib.Core.List.{List, [], _∷_, _++_}
@@ -6,6 +6,7 @@ use Rattle.numbers.specs.Numbers.{saturated}
 use Rattle.refusal.specs.Answer.{accepted, refused, orElse, cells}
 use Rattle.node_info.specs.declared.Geometry.{Geometry}
 use Rattle.node_info.specs.Capacity.{pointerSizeTo}
+use Rattle.read_checks.specs.Base.{onPart}
 use Rattle.read_checks.specs.Tests.{noRecords, rootTest}
 use Rattle.btree_v2_collect.specs.Walk.{Counts, Run, fine, stopped, ifPassed, noCounts, Tests, nodeRun}
 use Rattle.btree_v2_internal.specs.Internal.{internalTest}
@@ -29,6 +30,10 @@ collected file h out =
     orElse (not (noRecords (h .«total_records») (h .«num_records_in_root»))) (fine noCounts out)
     (ifPassed (rootTest (g .«record_size») (h .depth)) noCounts out
     (nodeRun file g (collectTests file g) (h .depth) (h .«root_node_address») (h .«num_records_in_root») noCounts out))
+
+-- Collecting it out of the part of the file from the header's base on.
+unfoldable pub collectedAt : List ℕ → BTreeV2Header → List ℕ → Run
+collectedAt file h out = onPart file (h .base) (stopped 18 [] noCounts out) (λ part. collected part h out)
 
 -- A walk's end as the call gives it: number and two values, and the four counts, each saturated at 2^64 - 1.
 abbrev pub countCells : Counts → List ℕ

@@ -14,6 +14,7 @@ use Rattle.refusal.specs.Answer.{accepted, verdictOf}
 use Rattle.read_checks.specs.Tests.{noRecords, rootTest}
 use Rattle.refusal.specs.declared.Verdict.{Verdict}
 use Rattle.btree_v2_collect.specs.declared.Tally.{Tally}
+use Rattle.btree_v2_collect.specs.declared.Collected.{Collected}
 use Rattle.btree_v2_header.specs.declared.BTreeV2Header.{BTreeV2Header}
 use Rattle.btree_v2_internal.specs.declared.Node.{Node}
 
@@ -24,6 +25,10 @@ countsOf t = record { records = getD t 0 0; leaves = getD t 1 0; internals = get
 -- Such a tally as the answer has it.
 abbrev pub tallyOf : List ℕ → Tally
 tallyOf t = record { records = getD t 0 0; leaves = getD t 1 0; internals = getD t 2 0; «internal_records» = getD t 3 0 }
+
+-- The answer of a call that ends with this verdict before it has read anything.
+abbrev pub endedBy : Verdict → Collected
+endedBy v = record { verdict = v; tally = record { records = 0; leaves = 0; internals = 0; «internal_records» = 0 } }
 
 -- How far a walk has come by an answer, a tally and an output.
 abbrev pub runOf : Verdict → List ℕ → List ℕ → Run

@@ -5,9 +5,9 @@ ghost use Prim.Native.Nat.{_+_, _-_, _*_, _≤_, _<_};
 ghost use lib.ListN.{length};
 ghost use Rattle.refusal.specs.Answer.{accepted, verdictOf};
 ghost use Rattle.btree_v2_collect.specs.Walk.{oneLeaf, oneInternal, oneInternalRecord, putRecords, ownRecordRun};
-ghost use Rattle.btree_v2_collect.specs.Collect.{collectTests, collected};
+ghost use Rattle.btree_v2_collect.specs.Collect.{collectTests, collected, collectedAt};
 ghost use Rattle.btree_v2_collect.specs.Answers.{Ends};
-ghost use Rattle.btree_v2_collect.specs.Collecting.{countsOf, tallyOf, saturatedCounts, Readable, Within, NodeThere, ChildAt, ChildrenLeft, RootRead, Walked, nodeWalk, childrenWalk};
+ghost use Rattle.btree_v2_collect.specs.Collecting.{countsOf, tallyOf, endedBy, saturatedCounts, Readable, Within, NodeThere, ChildAt, ChildrenLeft, RootRead, Walked, nodeWalk, childrenWalk};
 use crate::Collected;
 use crate::Tally;
 use btree_v2_header::BTreeV2Header;
@@ -314,29 +314,43 @@ fn collect_root(file: &[u8], header: BTreeV2Header, output: &mut [u8]) -> Collec
     }
 }
 
-// Collects the records of the tree that a header describes into the front of the output.
-pub fn collect_btree_v2_records(file: &[u8], header: BTreeV2Header, output: &mut [u8]) -> Collected
-    ensures { λ r. ⌜ Ends (collected (now (file .entry)) header (now (output .entry))) r (now (output .exit)) ⌝ }
+// A call that ends before it has read anything.
+fn ended(verdict: Verdict) -> Collected
+    ensures { λ r. ⌜ r ≡ endedBy verdict ⌝ }
 {
-    let tally = Tally {
-        records: 0,
-        leaves: 0,
-        internals: 0,
-        internal_records: 0,
-    };
+    Collected {
+        verdict,
+        tally: Tally {
+            records: 0,
+            leaves: 0,
+            internals: 0,
+            internal_records: 0,
+        },
+    }
+}
+
+// Collects the records of the header's tree, which stands in a part of a file.
+fn collect_part(part: &[u8], header: BTreeV2Header, output: &mut [u8]) -> Collected
+    ensures { λ r. ⌜ Ends (collected (now (part .entry)) header (now (output .entry))) r (now (output .exit)) ⌝ }
+{
     if read_checks::is_empty(header.total_records, header.num_records_in_root) {
-        return Collected {
-            verdict: Verdict::Accepted,
-            tally,
-        };
+        return ended(Verdict::Accepted);
     }
     let geometry = header.geometry;
     let tested = read_checks::check_root(geometry.record_size, header.depth);
     let Verdict::Accepted = tested else {
-        return Collected {
-            verdict: tested,
-            tally,
-        };
+        return ended(tested);
     };
-    collect_root(file, header, output)
+    collect_root(part, header, output)
+}
+
+// Collects the records of the tree that a header describes into the front of the output. Its addresses count from the header's base on.
+pub fn collect_btree_v2_records(file: &[u8], header: BTreeV2Header, output: &mut [u8]) -> Collected
+    ensures { λ r. ⌜ Ends (collectedAt (now (file .entry)) header (now (output .entry))) r (now (output .exit)) ⌝ }
+{
+    let tested = read_checks::check_base(file, header.base);
+    let Verdict::Accepted = tested else {
+        return ended(tested);
+    };
+    collect_part(&file[header.base as usize..], header, output)
 }

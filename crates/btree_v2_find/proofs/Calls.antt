@@ -1,4 +1,4 @@
--- The whole call: nothing to read, its refusals before the root, and the descent by the widths that the capacity table gives.
+-- Finding in a part of a file: nothing to read, the refusals before the root, and the descent by the widths that the capacity table gives.
 use mathlib.Core.Path.{_≡_, refl, sym, _∙_}
 use mathlib.Core.Bool.{Bool, true, false}
 use mathlib.Core.List.{List, []}
@@ -22,7 +22,7 @@ use Rattle.read_checks.specs.Tests.{noRecords, rootTest}
 use Rattle.read_checks.proofs.Root.{root-passed}
 use Rattle.btree_v2_header.specs.declared.BTreeV2Header.{BTreeV2Header}
 use Rattle.btree_v2_collect.specs.Collect.{collectTests}
-use Rattle.btree_v2_find.specs.Find.{lastWith, Descent, ended, onPassed, descent, keyTest, descended, placeFound, findCells}
+use Rattle.btree_v2_find.specs.Find.{lastWith, Descent, ended, onPassed, descent, keyTest, descended, placeFound, findCells, found}
 use Rattle.btree_v2_find.specs.Answers.{foundCells}
 use Rattle.btree_v2_find.specs.Descending.{EndedBy, Widths, RootSought}
 use Rattle.btree_v2_find.specs.declared.Found.{Found}
@@ -60,17 +60,17 @@ module _ (file : List ℕ) (h : BTreeV2Header) (f : Field) (x : ℕ) where
 
   -- An end with nothing read.
   ends-so : (v : Verdict) (r : Found) → EndedBy v 0 r → descended file h f x ≡ ended (verdictOf v)
-      → foundCells r ≡ findCells file f x (descended file h f x)
+      → foundCells r ≡ found file h f x
   unfolding findCells placeFound lastWith
   ends-so Accepted r is e = rw (is .verdict, is .nodes, is .place, e)
   ends-so (Refused q) r is e = rw (is .verdict, is .nodes, is .place, e, refused-is q .2)
 
   module _ (empty : Bool) (says : empty ≡ nothing) where
-    pub found-nothing : empty ≡ true → (r : Found) → EndedBy Accepted 0 r → foundCells r ≡ findCells file f x (descended file h f x)
+    pub found-nothing : empty ≡ true → (r : Found) → EndedBy Accepted 0 r → foundCells r ≡ found file h f x
     found-nothing e r is = ends-so Accepted r is (descended-empty (sym says ∙ e))
 
     module _ (some : empty ≡ false) (v : Verdict) (tested : verdictOf v ≡ rootTest (h .geometry .«record_size») (h .depth)) where
-      pub root-refused : (q : Refusal) → v ≡ Refused q → (r : Found) → EndedBy v 0 r → foundCells r ≡ findCells file f x (descended file h f x)
+      pub root-refused : (q : Refusal) → v ≡ Refused q → (r : Found) → EndedBy v 0 r → foundCells r ≡ found file h f x
       root-refused q e r is =
           ends-so v r is (descended-some (sym says ∙ some) ∙ rw (← tested, e, refused-is q .2))
 
@@ -79,7 +79,7 @@ module _ (file : List ℕ) (h : BTreeV2Header) (f : Field) (x : ℕ) where
         passes = sym tested ∙ rw passed
 
         pub key-refused : within ≡ false → (r : Found) → EndedBy (Refused InvalidKeyField) 0 r
-            → foundCells r ≡ findCells file f x (descended file h f x)
+            → foundCells r ≡ found file h f x
         unfolding keyTest
         key-refused e r is = ends-so (Refused InvalidKeyField) r is (descended-some (sym says ∙ some) ∙ rw (passes, ← field, e))
 
@@ -102,5 +102,5 @@ module _ {h : BTreeV2Header} {f : Field} (sought : RootSought h f) where
 
   pub root-found : (file : List ℕ) (x a n : ℕ) (r : Found)
       → foundCells r ≡ findCells file f x (descent file (h .geometry) f x (collectTests file (h .geometry)) (h .depth) a n)
-      → a ≡ h .«root_node_address» → n ≡ h .«num_records_in_root» → foundCells r ≡ findCells file f x (descended file h f x)
+      → a ≡ h .«root_node_address» → n ≡ h .«num_records_in_root» → foundCells r ≡ found file h f x
   root-found file x a n r found address records = rw (descended-root file h f x sought) (rw (address, records) at found)

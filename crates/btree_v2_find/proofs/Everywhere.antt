@@ -22,7 +22,7 @@ use Rattle.btree_v2_collect.specs.Walk.{recordPlace}
 use Rattle.btree_v2_collect.specs.Collect.{collectTests}
 use Rattle.btree_v2_collect.proofs.Nodes.{record-there}
 use Rattle.btree_v2_collect.proofs.Tested.{collecting-there}
-use Rattle.btree_v2_find.specs.Find.{lastWith, Descent, ended, onPassed, bound, bounding, descent, keyTest, descended, placeFound, placeCells, findCells}
+use Rattle.btree_v2_find.specs.Find.{lastWith, Descent, ended, onPassed, bound, bounding, descent, keyTest, descended, placeFound, placeCells, findCells, found}
 use Rattle.btree_v2_find.specs.Sorted.{recordSize, answered}
 use Rattle.btree_v2_find.specs.Refusals.{nodesOn, RefusedAfter, here, below, RefusedBy, before-root, at-key, at-node}
 use Rattle.btree_v2_find.proofs.Calls.{descended-empty, descended-some, descended-by}
@@ -165,12 +165,12 @@ module _ (file : List ℕ) (h : BTreeV2Header) (f : Field) (x : ℕ) where
 
   -- The call's six numbers: of an empty tree, and of one with records that is accepted.
   pub empty-cells : noRecords (h .«total_records») (h .«num_records_in_root») ≡ true
-      → findCells file f x (descended file h f x) ≡ 0 ∷ 0 ∷ 0 ∷ 0 ∷ 0 ∷ 0 ∷ []
+      → found file h f x ≡ 0 ∷ 0 ∷ 0 ∷ 0 ∷ 0 ∷ 0 ∷ []
   unfolding findCells cells placeFound lastWith
   empty-cells e = rw (nodes-empty e)
 
   pub accepted-cells : noRecords (h .«total_records») (h .«num_records_in_root») ≡ false → descended file h f x .ends ≡ accepted []
-      → findCells file f x (descended file h f x) ≡ 0 ∷ 0 ∷ 0 ∷ (h .depth + 1) ∷ placeCells (answered file h f x)
+      → found file h f x ≡ 0 ∷ 0 ∷ 0 ∷ (h .depth + 1) ∷ placeCells (answered file h f x)
   unfolding findCells cells
   accepted-cells some fine = rw (fine, nodes-accepted some fine)
 

@@ -2,6 +2,7 @@
 mod Searching
 mod Descending
 mod Calls
+pub mod Bases
 pub mod Keys
 pub mod Nodes
 pub mod Sorted

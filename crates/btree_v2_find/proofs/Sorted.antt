@@ -24,7 +24,7 @@ use Rattle.btree_v2_collect.proofs.InFile.{RecordsThere, Done, walk-done}
 use Rattle.btree_v2_collect.proofs.Outcomes.{collected-empty, collected-root, collected-fine}
 use Rattle.btree_v2_collect.proofs.Places.{PutOut, put-out, put-each}
 use Rattle.btree_v2_collect.proofs.Tested.{collecting-there}
-use Rattle.btree_v2_find.specs.Find.{Descent, onPassed, lastWith, descent, keyTest, descended, placeFound, findCells}
+use Rattle.btree_v2_find.specs.Find.{Descent, onPassed, lastWith, descent, keyTest, descended, placeFound, found}
 use Rattle.btree_v2_find.specs.Sorted.{keyOf, NeverFall, First, None, placesOf, recordSize, HasKey, answered, FindsFirst, FindsInOrder}
 use Rattle.btree_v2_find.proofs.Calls.{descended-empty, descended-some, descended-by}
 use Rattle.btree_v2_find.proofs.Everywhere.{accepted-cells}
@@ -170,9 +170,9 @@ module _ (file : List ℕ) (h : BTreeV2Header) (f : Field) (x : ℕ) (out o : Li
   finds = finds-first file h f x out o c e field never
 
   pub found-cells : (i : ℕ) → First o (recordSize h) f (c .records) x i
-      → findCells file f x (descended file h f x) ≡ 0 ∷ 0 ∷ 0 ∷ (h .depth + 1) ∷ 1 ∷ getD (placesOf file h) i 0 ∷ []
+      → found file h f x ≡ 0 ∷ 0 ∷ 0 ∷ (h .depth + 1) ∷ 1 ∷ getD (placesOf file h) i 0 ∷ []
   found-cells i first = accepted-cells file h f x some (finds .accepts) ∙ rw (finds .first i first)
 
   pub none-cells : None o (recordSize h) f (c .records) x
-      → findCells file f x (descended file h f x) ≡ 0 ∷ 0 ∷ 0 ∷ (h .depth + 1) ∷ 0 ∷ 0 ∷ []
+      → found file h f x ≡ 0 ∷ 0 ∷ 0 ∷ (h .depth + 1) ∷ 0 ∷ 0 ∷ []
   none-cells none = accepted-cells file h f x some (finds .accepts) ∙ rw (finds .none none)

@@ -4,17 +4,19 @@ use mathlib.Core.Bool.{true, false}
 use mathlib.Core.List.{List, [], _∷_}
 use Prim.Native.Nat.{ℕ, _-_, _^_}
 use lib.ListN.{getD}
-use Rattle.refusal.specs.Answer.{accepted, refused}
+use Rattle.refusal.specs.Answer.{accepted, refused, cells}
 use Rattle.numbers.specs.Numbers.{unle, num, leastFrom, width}
 use Rattle.node_info.specs.declared.Geometry.{Geometry}
 use Rattle.node_info.specs.Capacity.{leafCapacity, countWidth, totalWidth}
 use Rattle.field.specs.declared.Field.{Field}
 use Rattle.field.specs.Field.{numberField, numberAt}
+use Rattle.read_checks.specs.Base.{onPart}
 use Rattle.read_checks.specs.Tests.{rootTest}
+use Rattle.btree_v2_header.specs.Header.{withBase}
 use Rattle.btree_v2_header.specs.declared.BTreeV2Header.{BTreeV2Header}
 use Rattle.btree_v2_internal.specs.Internal.{pointerPlace, childAddress, childRecords}
 use Rattle.btree_v2_collect.specs.Walk.{Tests}
-use Rattle.btree_v2_find.specs.Find.{boundFrom, lastWith, Descent, ended, bound, bounding, descent, keyTest, descended, placeFound}
+use Rattle.btree_v2_find.specs.Find.{boundFrom, lastWith, Descent, ended, bound, bounding, descent, keyTest, descended, placeFound, findCells, foundAt}
 use Rattle.btree_v2_find.specs.Refusals.{NodeAt, nodesOn}
 use Rattle.btree_v2_find.proofs.Keys.{firstWith}
 
@@ -92,9 +94,18 @@ header n rs depth =
       «root_node_address» = 0;
       «num_records_in_root» = 1;
       «total_records» = n;
+      base = 0;
     }
 
 before-root : (descended file (header 0 0 33) (field 0 9) 5 ≡ ended (accepted [])) × (descended file (header 1 0 33) (field 0 9) 5 ≡ ended (refused 8 []))
     × (descended file (header 1 1 33) (field 0 9) 5 ≡ ended (refused 16 (33 ∷ []))) × (descended file (header 1 1 1) (field 0 9) 5 ≡ ended (refused 17 []))
 unfolding descended rootTest keyTest numberField
 before-root = (refl, refl, refl, refl)
+
+-- With a base, in a file of 30 bytes: 18 comes before all else, an empty tree's acceptance too; a base that is the length passes.
+with-base : (foundAt (9 ∷ file) (withBase 31 (header 0 0 33)) (field 0 9) 5 ≡ 18 ∷ 0 ∷ 0 ∷ 0 ∷ 0 ∷ 0 ∷ [])
+    × (foundAt (9 ∷ file) (withBase 30 (header 0 0 33)) (field 0 9) 5 ≡ 0 ∷ 0 ∷ 0 ∷ 0 ∷ 0 ∷ 0 ∷ [])
+    × (foundAt (9 ∷ file) (withBase 30 (header 1 0 33)) (field 0 9) 5 ≡ 8 ∷ 0 ∷ 0 ∷ 0 ∷ 0 ∷ 0 ∷ [])
+    × (foundAt [] (withBase 1 (header 0 1 0)) (field 0 1) 5 ≡ 18 ∷ 0 ∷ 0 ∷ 0 ∷ 0 ∷ 0 ∷ [])
+unfolding foundAt onPart findCells cells placeFound lastWith descended rootTest
+with-base = (refl, refl, refl, refl)

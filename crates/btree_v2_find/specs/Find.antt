@@ -1,4 +1,4 @@
--- What finding a record by its key answers, of any file: document 02, "One".
+-- What finding a record by its key answers, of any file: document 02, "One" and "Two".
 use Prim.Native.Nat.{ℕ, zero, suc, _+_}
 use mathlib.Core.Bool.{not}
 use mathlib.Core.List.{List, [], _∷_, _++_}
@@ -8,6 +8,7 @@ use Rattle.refusal.specs.Answer.{Answer, accepted, refused, orElse, ifAccepted,
 use Rattle.node_info.specs.declared.Geometry.{Geometry}
 use Rattle.field.specs.declared.Field.{Field}
 use Rattle.field.specs.Field.{numberField, numberAt}
+use Rattle.read_checks.specs.Base.{onPart}
 use Rattle.read_checks.specs.Tests.{noRecords, rootTest}
 use Rattle.btree_v2_header.specs.declared.BTreeV2Header.{BTreeV2Header}
 use Rattle.btree_v2_collect.specs.Walk.{Tests, recordPlace}
@@ -96,3 +97,10 @@ placeCells (p ∷ ps) = 1 ∷ p ∷ []
 -- A descent as the call gives it: number and two values, the nodes read, found or not and the place.
 unfoldable pub findCells : List ℕ → Field → ℕ → Descent → List ℕ
 findCells file f x r = cells 3 (r .ends) ++ (r .nodes ∷ placeCells (placeFound file f x r))
+
+-- What finding answers, as numbers; and out of the part of the file from the header's base on, in which the place is counted too.
+abbrev pub found : List ℕ → BTreeV2Header → Field → ℕ → List ℕ
+found file h f x = findCells file f x (descended file h f x)
+
+unfoldable pub foundAt : List ℕ → BTreeV2Header → Field → ℕ → List ℕ
+foundAt file h f x = onPart file (h .base) (cells 6 (refused 18 [])) (λ part. found part h f x)

@@ -4,7 +4,7 @@ ghost use mathlib.Core.Path.{_≡_};
 ghost use mathlib.Core.Bool.{true};
 ghost use Rattle.field.specs.Field.{numberField, numberAt};
 ghost use Rattle.btree_v2_collect.specs.Collect.{collectTests};
-ghost use Rattle.btree_v2_find.specs.Find.{oneOf, lastWith, bound, bounding, descent, descended, findCells};
+ghost use Rattle.btree_v2_find.specs.Find.{oneOf, lastWith, bound, bounding, descent, findCells, found, foundAt};
 ghost use Rattle.btree_v2_find.specs.Answers.{placeOf, foundCells};
 ghost use Rattle.btree_v2_find.specs.Descending.{Searched, EndedBy, Widths, RootSought};
 use btree_v2_header::BTreeV2Header;
@@ -127,7 +127,7 @@ fn descend(
 // Finds from the root on: the widths of the pointers by the capacity table, and the descent.
 fn find_from_root(file: &[u8], header: BTreeV2Header, key: Field, sought: u64) -> Found
     requires { ⌜ RootSought header key ⌝ }
-    ensures { λ r. ⌜ foundCells r ≡ findCells (now (file .entry)) key sought (descended (now (file .entry)) header key sought) ⌝ }
+    ensures { λ r. ⌜ foundCells r ≡ found (now (file .entry)) header key sought ⌝ }
 {
     let geometry = header.geometry;
     let answer = NodeInfo::compute(geometry, header.depth);
@@ -148,9 +148,9 @@ fn find_from_root(file: &[u8], header: BTreeV2Header, key: Field, sought: u64) -
     )
 }
 
-// Finds the record of the header's tree that has this key in this field.
-pub fn find(file: &[u8], header: BTreeV2Header, key: Field, sought: u64) -> Found
-    ensures { λ r. ⌜ foundCells r ≡ findCells (now (file .entry)) key sought (descended (now (file .entry)) header key sought) ⌝ }
+// Finds the record of the header's tree, which stands in a part of a file.
+fn find_in_part(part: &[u8], header: BTreeV2Header, key: Field, sought: u64) -> Found
+    ensures { λ r. ⌜ foundCells r ≡ found (now (part .entry)) header key sought ⌝ }
 {
     if read_checks::is_empty(header.total_records, header.num_records_in_root) {
         return ended(Verdict::Accepted, 0);
@@ -161,7 +161,18 @@ pub fn find(file: &[u8], header: BTreeV2Header, key: Field, sought: u64) -> Foun
         return ended(tested, 0);
     };
     if field::is_number_field(key, geometry.record_size) {
-        return find_from_root(file, header, key, sought);
+        return find_from_root(part, header, key, sought);
     }
     ended(Verdict::Refused(Refusal::InvalidKeyField), 0)
+}
+
+// Finds the record of the header's tree that has this key in this field. Its place counts from the header's base on, as the addresses do.
+pub fn find(file: &[u8], header: BTreeV2Header, key: Field, sought: u64) -> Found
+    ensures { λ r. ⌜ foundCells r ≡ foundAt (now (file .entry)) header key sought ⌝ }
+{
+    let tested = read_checks::check_base(file, header.base);
+    let Verdict::Accepted = tested else {
+        return ended(tested, 0);
+    };
+    find_in_part(&file[header.base as usize..], header, key, sought)
 }

@@ -15,14 +15,14 @@ use Rattle.refusal.specs.declared.Refusal.{Refusal}
 use Rattle.refusal.specs.Answer.{Answer, accepted, refused, refusalOf, orElse, verdictOf}
 use Rattle.format.specs.Bytes.{headerSignature, headerSize}
 use Rattle.read_checks.specs.Tests.{needs, same, checksumTest}
-use Rattle.btree_v2_header.specs.Header.{headerFigures, headerAt, parsed}
-use Rattle.btree_v2_header.specs.Answers.{Parses}
+use Rattle.btree_v2_header.specs.Header.{headerFigures, headerAt, withBase, carrying, parsed}
 use Rattle.btree_v2_header.specs.declared.BTreeV2Header.{BTreeV2Header}
 use Rattle.btree_v2_header.specs.declared.HeaderAnswer.the-variants as header
 use Rattle.refusal.specs.declared.Refusal.the-variants.{InvalidBTreeV2Signature, InvalidBTreeV2Version, InvalidOffsetSize, InvalidLengthSize}
 use Rattle.refusal.specs.declared.Verdict.{Verdict}
 use Rattle.refusal.specs.declared.Verdict.the-variants.{Accepted, Refused}
-use Rattle.btree_v2_header.specs.Parsing.{Begun, FieldsThere}
+use Rattle.btree_v2_header.specs.Parsing.{ParsesPart, Begun, FieldsThere}
+use Rattle.refusal.proofs.Answers.{refused-is}
 use Rattle.read_checks.proofs.Checks.{bytes-missing, sum-right, sum-wrong}
 
 -- A number in one byte.
@@ -44,17 +44,17 @@ pub begun : (file : List ℕ) (o ow : ℕ) → o + 16 ≤ length file → same (
 begun file o ow h s z f =
     record { there = h; signature = s; version = rw (num-1 file (o + 4) (omega arith), z); size = f }
 
-module _ (file : List ℕ) (o ow lw : ℕ) where
+module _ (file : List ℕ) (base o ow lw : ℕ) where
   -- A refusal gives no header.
-  refuses : (r : Refusal) → refusalOf r ≡ parsed file o ow lw → Parses file o ow lw (header.Refused r)
-  refuses r e = record { answer = e; fields = λ h f. cc }
+  refuses : (r : Refusal) → refusalOf r ≡ parsed file o ow lw → ParsesPart file base o ow lw (header.Refused r)
+  refuses r e = record { answer = rw (← e, refused-is r .2); fields = λ h f. cc }
 
   -- What `ensure_len` says of `count` bytes from o on; and that a refusal for want of these is the answer.
   abbrev Code : ℕ → Verdict → Type 0
   Code count v = verdictOf v ≡ needs (o + count) (length file) (accepted [])
 
   abbrev Stop : ℕ → Type 0
-  Stop count = (v : Verdict) (r : Refusal) → v ≡ Refused r → Code count v → Parses file o ow lw (header.Refused r)
+  Stop count = (v : Verdict) (r : Refusal) → v ≡ Refused r → Code count v → ParsesPart file base o ow lw (header.Refused r)
 
   missing : (count : ℕ) (v : Verdict) (r : Refusal) → v ≡ Refused r → Code count v → (rest : Answer)
       → needs (o + count) (length file) rest ≡ refusalOf r
@@ -66,7 +66,7 @@ module _ (file : List ℕ) (o ow lw : ℕ) where
   stop-start v r e h = refuses r (rw (missing 4 v r e h))
 
   module _ (h4 : o + 4 ≤ length file) where
-    pub stop-signature : same (part file o 4) headerSignature ≡ false → Parses file o ow lw (header.Refused InvalidBTreeV2Signature)
+    pub stop-signature : same (part file o 4) headerSignature ≡ false → ParsesPart file base o ow lw (header.Refused InvalidBTreeV2Signature)
     unfolding parsed
     stop-signature x = refuses _ (rw (le-leb _ _ h4, x))
 
@@ -79,12 +79,12 @@ module _ (file : List ℕ) (o ow lw : ℕ) where
         version : num file (o + 4) 1 ≡ getD file (o + 4) 0
         version = num-1 file (o + 4) (omega arith)
 
-        pub stop-version : (x : ℕ) → x ≡ getD file (o + 4) 0 → (x ≡ 0 → ⊥) → Parses file o ow lw (header.Refused (InvalidBTreeV2Version x))
+        pub stop-version : (x : ℕ) → x ≡ getD file (o + 4) 0 → (x ≡ 0 → ⊥) → ParsesPart file base o ow lw (header.Refused (InvalidBTreeV2Version x))
         unfolding parsed
         stop-version x e d = refuses _ (rw (le-leb _ _ h4, signed, le-leb _ _ h16, version, ← e, ne-eqb _ _ d))
 
         module _ (z : getD file (o + 4) 0 ≡ 0) where
-          pub stop-offset-size : fieldSize ow ≡ false → Parses file o ow lw (header.Refused (InvalidOffsetSize ow))
+          pub stop-offset-size : fieldSize ow ≡ false → ParsesPart file base o ow lw (header.Refused (InvalidOffsetSize ow))
           unfolding parsed
           stop-offset-size x = refuses _ (rw (le-leb _ _ h4, signed, le-leb _ _ h16, version, z, x))
 
@@ -118,7 +118,7 @@ module _ (file : List ℕ) (o ow lw : ℕ) where
       stop-count v r e h = refuses r (rw (begins, le-leb _ _ h1, missing (16 + ow + 2) v r e h))
 
       module _ (h2 : o + (16 + ow + 2) ≤ length file) where
-        pub stop-length-size : fieldSize lw ≡ false → Parses file o ow lw (header.Refused (InvalidLengthSize lw))
+        pub stop-length-size : fieldSize lw ≡ false → ParsesPart file base o ow lw (header.Refused (InvalidLengthSize lw))
         unfolding tests
         stop-length-size x = refuses _ (rw (begins, le-leb _ _ h1, le-leb _ _ h2, x))
 
@@ -134,13 +134,13 @@ module _ (file : List ℕ) (o ow lw : ℕ) where
 
             module _ (h4 : o + (16 + ow + 2 + lw + 4) ≤ length file) (v : Verdict)
                 (code : verdictOf v ≡ checksumTest file o (o + (16 + ow + 2 + lw)) (accepted [])) where
-              pub stop-checksum : (r : Refusal) → v ≡ Refused r → Parses file o ow lw (header.Refused r)
+              pub stop-checksum : (r : Refusal) → v ≡ Refused r → ParsesPart file base o ow lw (header.Refused r)
               unfolding tests
               stop-checksum r s =
                   refuses r
                   (rw (begins, le-leb _ _ h1, le-leb _ _ h2, sized, le-leb _ _ h3, le-leb _ _ h4, sum-wrong file o _ v code r s))
 
-              pub passed : (h : BTreeV2Header) → v ≡ Accepted → h ≡ headerAt file o ow lw → Parses file o ow lw (header.Parsed h)
+              pub passed : (h : BTreeV2Header) → v ≡ Accepted → h ≡ withBase base (headerAt file o ow lw) → ParsesPart file base o ow lw (header.Parsed h)
               unfolding tests
               passed h s e =
                   record {
@@ -163,7 +163,7 @@ module _ (len o k : ℕ) (h : o + 16 ≤ len) (l : k < 16) where
   byte-fits s = omega arith
 
 -- The fields, as they are read.
-pub fields-are : (file : List ℕ) (o ow lw a b c d e f : ℕ) → FieldsThere file o ow lw → a ≡ num file (o + 6) 4 → b ≡ num file (o + 10) 2 → c ≡ num file (o + 12) 2 → d ≡ num file (o + 16) (min ow 8)
+pub fields-are : (file : List ℕ) (base o ow lw a b c d e f : ℕ) → FieldsThere file o ow lw → a ≡ num file (o + 6) 4 → b ≡ num file (o + 10) 2 → c ≡ num file (o + 12) 2 → d ≡ num file (o + 16) (min ow 8)
     → e ≡ num file (o + 16 + ow) 2 → f ≡ num file (o + 18 + ow) (min lw 8)
     → _≡_ {A = BTreeV2Header}
     (record {
@@ -173,10 +173,11 @@ pub fields-are : (file : List ℕ) (o ow lw a b c d e f : ℕ) → FieldsThere f
       «root_node_address» = d;
       «num_records_in_root» = e;
       «total_records» = f;
+      base = base;
     })
-    (headerAt file o ow lw)
+    (withBase base (headerAt file o ow lw))
 unfolding headerAt
-fields-are file o ow lw a b c d e f h ha hb hc hd he hf =
+fields-are file base o ow lw a b c d e f h ha hb hc hd he hf =
     let m : min ow 8 ≡ ow = omega (arith, field-size-le ow (h .offsets)) in
     let n : min lw 8 ≡ lw = omega (arith, field-size-le lw (h .lengths)) in
     rw (num-1 file (o + 5) (omega (arith, h .there)), ha, hb, hc, hd, he, hf, m, n)

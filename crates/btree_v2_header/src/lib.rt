@@ -4,14 +4,14 @@ ghost use mathlib.Core.Path.{_≡_};
 ghost use Prim.Native.Nat.{_+_, _≤_};
 ghost use lib.ListN.{length};
 ghost use Rattle.numbers.specs.Numbers.{num};
-ghost use Rattle.btree_v2_header.specs.Header.{headerAt};
+ghost use Rattle.btree_v2_header.specs.Header.{withBase, headerAt};
 ghost use Rattle.btree_v2_header.specs.Answers.{Parses};
-ghost use Rattle.btree_v2_header.specs.Parsing.{Begun, FieldsThere};
+ghost use Rattle.btree_v2_header.specs.Parsing.{ParsesPart, Begun, FieldsThere};
 use node_info::Geometry;
 use refusal::Refusal;
 use refusal::Verdict;
 
-// The header, as it stands in a file.
+// The header, as it stands in a file, and the base of that file.
 pub struct BTreeV2Header {
     pub tree_type: u8,
     pub geometry: Geometry,
@@ -21,6 +21,8 @@ pub struct BTreeV2Header {
     pub num_records_in_root: u16,
     // in all nodes
     pub total_records: u64,
+    // addresses count from here on
+    pub base: u64,
 }
 
 pub enum HeaderAnswer {
@@ -29,79 +31,108 @@ pub enum HeaderAnswer {
 }
 
 impl BTreeV2Header {
-    // The header at `offset`, for offsets and lengths of these sizes.
-    pub fn parse(file: &[u8], offset: u64, offset_size: u8, length_size: u8) -> HeaderAnswer
-        ensures { λ r. ⌜ Parses (now (file .entry)) offset «offset_size» «length_size» r ⌝ }
+    // The header at `offset` of the part of the file from `base` on, for offsets and lengths of these sizes.
+    pub fn parse(
+        file: &[u8],
+        base: u64,
+        offset: u64,
+        offset_size: u8,
+        length_size: u8,
+    ) -> HeaderAnswer
+        ensures { λ r. ⌜ Parses (now (file .entry)) base offset «offset_size» «length_size» r ⌝ }
     {
-        if let Verdict::Refused(r) = read_checks::ensure_len(file, offset, 4) {
+        if let Verdict::Refused(r) = read_checks::check_base(file, base) {
             return HeaderAnswer::Refused(r);
         }
-        let at = offset as usize;
-        if !read_checks::has_signature(file, at, b'H', b'D') {
-            return HeaderAnswer::Refused(Refusal::InvalidBTreeV2Signature);
-        }
-        if let Verdict::Refused(r) = read_checks::ensure_len(file, offset, 16) {
-            return HeaderAnswer::Refused(r);
-        }
-        let version = file[at + 4];
-        if version != 0 {
-            return HeaderAnswer::Refused(Refusal::InvalidBTreeV2Version(version));
-        }
-        if !numbers::is_field_size(offset_size) {
-            return HeaderAnswer::Refused(Refusal::InvalidOffsetSize(offset_size));
-        }
-        parse_sized(file, offset, offset_size, length_size)
+        parse_part(
+            &file[base as usize..],
+            base,
+            offset,
+            offset_size,
+            length_size,
+        )
     }
 }
 
-// The same, where the tests up to that of the offset size have passed.
-fn parse_sized(file: &[u8], offset: u64, offset_size: u8, length_size: u8) -> HeaderAnswer
-    requires { ⌜ Begun (now file) offset «offset_size» ⌝ }
-    ensures { λ r. ⌜ Parses (now (file .entry)) offset «offset_size» «length_size» r ⌝ }
+// The header at `offset` of the part of a file from `base` on. The base is only carried into the header.
+fn parse_part(part: &[u8], base: u64, offset: u64, offset_size: u8, length_size: u8) -> HeaderAnswer
+    ensures { λ r. ⌜ ParsesPart (now (part .entry)) base offset «offset_size» «length_size» r ⌝ }
 {
-    let root_end = 16 + (offset_size as u64);
-    if let Verdict::Refused(r) = read_checks::ensure_len(file, offset, root_end) {
+    if let Verdict::Refused(r) = read_checks::ensure_len(part, offset, 4) {
         return HeaderAnswer::Refused(r);
     }
-    if let Verdict::Refused(r) = read_checks::ensure_len(file, offset, root_end + 2) {
+    let at = offset as usize;
+    if !read_checks::has_signature(part, at, b'H', b'D') {
+        return HeaderAnswer::Refused(Refusal::InvalidBTreeV2Signature);
+    }
+    if let Verdict::Refused(r) = read_checks::ensure_len(part, offset, 16) {
+        return HeaderAnswer::Refused(r);
+    }
+    let version = part[at + 4];
+    if version != 0 {
+        return HeaderAnswer::Refused(Refusal::InvalidBTreeV2Version(version));
+    }
+    if !numbers::is_field_size(offset_size) {
+        return HeaderAnswer::Refused(Refusal::InvalidOffsetSize(offset_size));
+    }
+    parse_sized(part, base, offset, offset_size, length_size)
+}
+
+// The same, where the tests up to that of the offset size have passed.
+fn parse_sized(
+    part: &[u8],
+    base: u64,
+    offset: u64,
+    offset_size: u8,
+    length_size: u8,
+) -> HeaderAnswer
+    requires { ⌜ Begun (now part) offset «offset_size» ⌝ }
+    ensures { λ r. ⌜ ParsesPart (now (part .entry)) base offset «offset_size» «length_size» r ⌝ }
+{
+    let root_end = 16 + (offset_size as u64);
+    if let Verdict::Refused(r) = read_checks::ensure_len(part, offset, root_end) {
+        return HeaderAnswer::Refused(r);
+    }
+    if let Verdict::Refused(r) = read_checks::ensure_len(part, offset, root_end + 2) {
         return HeaderAnswer::Refused(r);
     }
     if !numbers::is_field_size(length_size) {
         return HeaderAnswer::Refused(Refusal::InvalidLengthSize(length_size));
     }
     let fields_end = root_end + 2 + (length_size as u64);
-    if let Verdict::Refused(r) = read_checks::ensure_len(file, offset, fields_end) {
+    if let Verdict::Refused(r) = read_checks::ensure_len(part, offset, fields_end) {
         return HeaderAnswer::Refused(r);
     }
-    if let Verdict::Refused(r) = read_checks::ensure_len(file, offset, fields_end + 4) {
+    if let Verdict::Refused(r) = read_checks::ensure_len(part, offset, fields_end + 4) {
         return HeaderAnswer::Refused(r);
     }
     let at = offset as usize;
     let end = at + (fields_end as usize);
-    if let Verdict::Refused(r) = read_checks::check_checksum(file, at, end) {
+    if let Verdict::Refused(r) = read_checks::check_checksum(part, at, end) {
         return HeaderAnswer::Refused(r);
     }
-    HeaderAnswer::Parsed(fields_at(file, at, offset_size, length_size))
+    HeaderAnswer::Parsed(fields_at(part, base, at, offset_size, length_size))
 }
 
 // The fields of the header at `at`.
-fn fields_at(file: &[u8], at: usize, offset_size: u8, length_size: u8) -> BTreeV2Header
-    requires { ⌜ FieldsThere (now file) at «offset_size» «length_size» ⌝ }
-    ensures { λ r. ⌜ r ≡ headerAt (now (file .entry)) at «offset_size» «length_size» ⌝ }
+fn fields_at(part: &[u8], base: u64, at: usize, offset_size: u8, length_size: u8) -> BTreeV2Header
+    requires { ⌜ FieldsThere (now part) at «offset_size» «length_size» ⌝ }
+    ensures { λ r. ⌜ r ≡ withBase base (headerAt (now (part .entry)) at «offset_size» «length_size») ⌝ }
 {
     let root_width = offset_size as usize;
     let total_width = length_size as usize;
     BTreeV2Header {
-        tree_type: file[at + 5],
+        tree_type: part[at + 5],
         geometry: Geometry {
-            node_size: read_u32(file, at + 6),
-            record_size: read_u16(file, at + 10),
+            node_size: read_u32(part, at + 6),
+            record_size: read_u16(part, at + 10),
             offset_size,
         },
-        depth: read_u16(file, at + 12),
-        root_node_address: numbers::read_le(file, at + 16, root_width),
-        num_records_in_root: read_u16(file, at + 16 + root_width),
-        total_records: numbers::read_le(file, at + 18 + root_width, total_width),
+        depth: read_u16(part, at + 12),
+        root_node_address: numbers::read_le(part, at + 16, root_width),
+        num_records_in_root: read_u16(part, at + 16 + root_width),
+        total_records: numbers::read_le(part, at + 18 + root_width, total_width),
+        base,
     }
 }
 

@@ -2,3 +2,4 @@
 mod Records
 mod Views
 pub mod Looking
+pub mod Bases

@@ -1,4 +1,4 @@
--- A borrowed look at one leaf, which hands out its records: document 01, "Rust forms and their replacements".
+-- A borrowed look at one leaf, which hands out its records: document 01, "Rust forms and their replacements", and document 02, "Two".
 use Prim.Native.Nat.{ℕ, _+_, _*_}
 use mathlib.Core.List.{List, [], _∷_}
 use lib.Dec.{leb, ltb}
@@ -7,6 +7,7 @@ use Rattle.numbers.specs.Numbers.{pick, part}
 use Rattle.refusal.specs.Answer.{Answer, accepted, refused, orElse, onAccepted, ifAccepted}
 use Rattle.numbers.specs.Places.{over}
 use Rattle.format.specs.Bytes.{prefixSize}
+use Rattle.read_checks.specs.Base.{onPart}
 use Rattle.btree_v2_leaf.specs.Leaf.{leafTest}
 
 -- The tests of a look at the leaf at a with n records of rs bytes: 8, then the leaf's own.
@@ -35,3 +36,17 @@ recordAnswer file rs a n i out =
 unfoldable pub recordExit : List ℕ → ℕ → ℕ → ℕ → ℕ → List ℕ → List ℕ
 recordExit file rs a n i out =
     ifAccepted (recordAnswer file rs a n i out) (over (recordOf (lookBytes file rs a n) rs n i) out) out
+
+-- The same of the part of the file from a base on.
+module _ (file : List ℕ) (base : ℕ) where
+  unfoldable pub lookTestAt : ℕ → ℕ → ℕ → Answer
+  lookTestAt rs a n = onPart file base (refused 18 []) (λ part. lookTest part rs a n)
+
+  unfoldable pub lookBytesAt : ℕ → ℕ → ℕ → List ℕ
+  lookBytesAt rs a n = onPart file base [] (λ part. lookBytes part rs a n)
+
+  unfoldable pub recordAnswerAt : ℕ → ℕ → ℕ → ℕ → List ℕ → Answer
+  recordAnswerAt rs a n i out = onPart file base (refused 18 []) (λ part. recordAnswer part rs a n i out)
+
+  unfoldable pub recordExitAt : ℕ → ℕ → ℕ → ℕ → List ℕ → List ℕ
+  recordExitAt rs a n i out = onPart file base out (λ part. recordExit part rs a n i out)

@@ -2,7 +2,8 @@
 // the functions under it take slices and numbers.
 
 ghost use mathlib.Core.Path.{_≡_};
-ghost use Rattle.btree_v2_leaf_view.specs.Look.{lookTest, bytesIf, lookBytes, recordOf, recordAnswer, recordExit};
+ghost use lib.ListN.{drop};
+ghost use Rattle.btree_v2_leaf_view.specs.Look.{lookTest, bytesIf, recordOf, lookTestAt, lookBytesAt, recordAnswerAt, recordExitAt};
 ghost use Rattle.refusal.specs.Answer.{verdictOf};
 ghost use Rattle.btree_v2_leaf_view.specs.Answers.{recordAnswerOf};
 use refusal::Refusal;
@@ -28,35 +29,44 @@ pub enum RecordAnswer {
     Refused(Refusal),
 }
 
-// The tests of a look: a record has bytes, and the leaf's own.
-pub fn check_view(file: &[u8], address: u64, count: u16, record_size: u16) -> Verdict
-    ensures { λ r. ⌜ verdictOf r ≡ lookTest (now (file .entry)) «record_size» address count ⌝ }
+// The tests of a look in a part of a file: a record has bytes, and the leaf's own.
+fn check_part(part: &[u8], address: u64, count: u16, record_size: u16) -> Verdict
+    ensures { λ r. ⌜ verdictOf r ≡ lookTest (now (part .entry)) «record_size» address count ⌝ }
 {
     if record_size == 0 {
         return Verdict::Refused(Refusal::ZeroRecordSize);
     }
-    btree_v2_leaf::check_leaf(file, address, count, record_size)
+    btree_v2_leaf::check_leaf(part, address, count, record_size)
+}
+
+// The tests of a look: the base is within the file, and those in the part from it on.
+pub fn check_view(file: &[u8], base: u64, address: u64, count: u16, record_size: u16) -> Verdict
+    ensures { λ r. ⌜ verdictOf r ≡ lookTestAt (now (file .entry)) base «record_size» address count ⌝ }
+{
+    let tested = read_checks::check_base(file, base);
+    let Verdict::Accepted = tested else {
+        return tested;
+    };
+    check_part(&file[base as usize..], address, count, record_size)
 }
 
 // The records of a leaf with this verdict: none where it is refused.
 fn records_of<'a>(
     verdict: Verdict,
     file: &'a [u8],
+    base: u64,
     address: u64,
     count: u16,
     record_size: u16,
 ) -> &'a [u8]
-    ensures { λ r. ⌜ now r ≡ bytesIf (verdictOf verdict) (now (file .entry)) «record_size» address count ⌝ }
+    ensures { λ r. ⌜ now r ≡ bytesIf (verdictOf verdict) (drop base (now (file .entry))) «record_size» address count ⌝ }
 {
     let Verdict::Accepted = verdict else {
         return &file[0..0];
     };
+    let first = numbers::saturating_add(address, format::PREFIX_SIZE);
     let bytes = (count as u64) * (record_size as u64);
-    numbers::part(
-        file,
-        numbers::saturating_add(address, format::PREFIX_SIZE),
-        bytes,
-    )
+    numbers::part(file, numbers::saturating_add(base, first), bytes)
 }
 
 // Record i of `count` records that stand end to end; empty where i is not below the count.
@@ -70,13 +80,19 @@ fn record_of<'a>(records: &'a [u8], record_size: u16, count: u16, i: u64) -> &'a
 }
 
 impl<'a> LeafAnswer<'a> {
-    // A look at the leaf at `address` with `count` records.
-    pub fn look(file: &'a [u8], address: u64, count: u16, record_size: u16) -> LeafAnswer<'a>
-        ensures { λ r. ⌜ (verdictOf (r .verdict) ≡ lookTest (now (file .entry)) «record_size» address count)
-            × (now (r .view .records) ≡ lookBytes (now (file .entry)) «record_size» address count) × (r .view .«record_size» ≡ «record_size») × (r .view .count ≡ count) ⌝ }
+    // A look at the leaf with `count` records at `address` of the part of the file from `base` on.
+    pub fn look(
+        file: &'a [u8],
+        base: u64,
+        address: u64,
+        count: u16,
+        record_size: u16,
+    ) -> LeafAnswer<'a>
+        ensures { λ r. ⌜ (verdictOf (r .verdict) ≡ lookTestAt (now (file .entry)) base «record_size» address count)
+            × (now (r .view .records) ≡ lookBytesAt (now (file .entry)) base «record_size» address count) × (r .view .«record_size» ≡ «record_size») × (r .view .count ≡ count) ⌝ }
     {
-        let verdict = check_view(file, address, count, record_size);
-        let records = records_of(verdict, file, address, count, record_size);
+        let verdict = check_view(file, base, address, count, record_size);
+        let records = records_of(verdict, file, base, address, count, record_size);
         LeafAnswer {
             verdict,
             view: LeafView {
@@ -103,23 +119,25 @@ impl<'a> LeafView<'a> {
     }
 }
 
-// Record `index` of the leaf at `address`, copied to the front of the output: its length, 0 where the index is not below the count.
+// Record `index` of the leaf at `address` of the part of the file from `base` on, copied to the front of the output: its length, 0 where the
+// index is not below the count.
 pub fn copy_leaf_record(
     file: &[u8],
+    base: u64,
     address: u64,
     count: u16,
     record_size: u16,
     index: u64,
     output: &mut [u8],
 ) -> RecordAnswer
-    ensures answered { λ r. ⌜ recordAnswerOf r ≡ recordAnswer (now (file .entry)) «record_size» address count index (now (output .entry)) ⌝ }
-    ensures outputLeft { λ r. ⌜ now (output .exit) ≡ recordExit (now (file .entry)) «record_size» address count index (now (output .entry)) ⌝ }
+    ensures answered { λ r. ⌜ recordAnswerOf r ≡ recordAnswerAt (now (file .entry)) base «record_size» address count index (now (output .entry)) ⌝ }
+    ensures outputLeft { λ r. ⌜ now (output .exit) ≡ recordExitAt (now (file .entry)) base «record_size» address count index (now (output .entry)) ⌝ }
 {
-    let verdict = check_view(file, address, count, record_size);
+    let verdict = check_view(file, base, address, count, record_size);
     if let Verdict::Refused(cause) = verdict {
         return RecordAnswer::Refused(cause);
     }
-    let records = records_of(verdict, file, address, count, record_size);
+    let records = records_of(verdict, file, base, address, count, record_size);
     let record = record_of(records, record_size, count, index);
     if output.len() < record.len() {
         return RecordAnswer::Refused(Refusal::OutputTooShort(output.len() as u64));

@@ -32,6 +32,13 @@ module _ (v : Verdict) (t : Bool) (number : ℕ) (values : List ℕ)
       by true h = refl
       by false h = cc
 
+  pub verdict-failed : (r : Refusal) → v ≡ Refused r → t ≡ false
+  verdict-failed r e = by t (rw e at code)
+    where
+      by : (b : Bool) → refusalOf r ≡ orElse b (refused number values) (accepted []) → b ≡ false
+      by true h = let f = refused-is r .2 in cc
+      by false h = refl
+
   pub verdict-stopped : (r : Refusal) → v ≡ Refused r → (rest : Answer) → orElse t (refused number values) rest ≡ refusalOf r
   verdict-stopped r e rest = by t (rw e at code)
     where

@@ -6,10 +6,21 @@ ghost use Prim.Native.Nat.{_+_, _-_};
 ghost use lib.ListN.{length};
 ghost use Rattle.numbers.specs.Numbers.{part};
 ghost use Rattle.refusal.specs.Answer.{accepted, verdictOf};
+ghost use Rattle.read_checks.specs.Base.{baseTest};
 ghost use Rattle.read_checks.specs.Tests.{needs, same, frontTest, checksumTest, noRecords, rootTest};
 use node_info::NodeInfo;
 use refusal::Refusal;
 use refusal::Verdict;
+
+// Refusal 18 where the base is beyond the file's length.
+pub fn check_base(file: &[u8], base: u64) -> Verdict
+    ensures { λ r. ⌜ verdictOf r ≡ baseTest (now (file .entry)) base ⌝ }
+{
+    if (file.len() as u64) < base {
+        return Verdict::Refused(Refusal::BaseBeyondFile);
+    }
+    Verdict::Accepted
+}
 
 // Refusal 1 where fewer than `count` bytes are there from `at` on.
 pub fn ensure_len(data: &[u8], at: u64, count: u64) -> Verdict

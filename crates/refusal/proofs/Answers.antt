@@ -1,5 +1,5 @@
 -- Laws of an answer as numbers. (`cc` knows that `accepted` and `refused` differ and give back what they hold.)
-use mathlib.Core.Path.{_≡_, refl}
+use mathlib.Core.Path.{_≡_, refl, sym, _∙_}
 use Prim.Native.Nat.{_-_, ℕ, suc, _+_, _≤_, _<_}
 use lib.Dec.{lit<, lit≤}
 use Rattle.refusal.specs.Answer.{Answer, accepted, refused, refusalOf, verdictOf, cells}
@@ -7,10 +7,10 @@ use mathlib.Core.List.{List, [], _∷_, _++_, append-assoc}
 use native.Mathlib.Nat.{add-comm}
 use native.Mathlib.Omega.{arith}
 use lib.ListN.{length, take, replicate, length-take, length-append, length-replicate, replicate-append-replicate}
-use lib.Seq.{take-append-add, take-at}
+use lib.Seq.{take-append-add, take-append-le, take-at}
 use Rattle.refusal.specs.declared.Refusal.{Refusal}
 use Rattle.refusal.specs.declared.Refusal.the-variants.{UnexpectedEof, InvalidBTreeV2Signature, InvalidBTreeV2Version, InvalidOffsetSize, InvalidLengthSize, ChecksumMismatch, InvalidNodeSize, ZeroRecordSize, TooManyRecords}
-use Rattle.refusal.specs.declared.Refusal.the-variants.{LevelHoldsNone, SubtreeTooThin, RecordBufferLength, CountAboveLengthSize, AddressAboveOffsetSize, OutputTooShort, DepthAboveLimit, InvalidKeyField}
+use Rattle.refusal.specs.declared.Refusal.the-variants.{LevelHoldsNone, SubtreeTooThin, RecordBufferLength, CountAboveLengthSize, AddressAboveOffsetSize, OutputTooShort, DepthAboveLimit, InvalidKeyField, BaseBeyondFile}
 use Rattle.refusal.specs.declared.Verdict.{Verdict}
 use Rattle.refusal.specs.declared.Verdict.the-variants.{Accepted, Refused}
 
@@ -29,6 +29,15 @@ pub cells-accepted : (k : ℕ) (figures : List ℕ) (n : ℕ) → k ≡ suc (len
     → cells k (accepted figures) ≡ (0 ∷ figures) ++ replicate n 0
 unfolding cells
 cells-accepted k figures n e = nextRecord 0 (0 ∷ figures) k n e
+
+-- A zero behind the figures changes nothing.
+pub cells-zero : (k : ℕ) (figures : List ℕ) → cells k (accepted (figures ++ (0 ∷ []))) ≡ cells k (accepted figures)
+unfolding cells
+cells-zero k figures =
+    let one : List ℕ = 0 ∷ [] in
+    let turned : one ++ replicate k 0 ≡ replicate k 0 ++ one = replicate-append-replicate 1 k 0 ∙ rw add-comm (sym (replicate-append-replicate k 1 0)) in
+    rw (append-assoc figures one (replicate k 0), turned, ← append-assoc figures (replicate k 0) one)
+    (take-append-le k (0 ∷ (figures ++ replicate k 0)) one (simp (length-append, length-replicate) (omega arith)))
 
 pub cells-refused : (k number : ℕ) (values : List ℕ) (n : ℕ) → k ≡ suc (length values) + n
     → cells k (refused number values) ≡ (number ∷ values) ++ replicate n 0
@@ -60,6 +69,7 @@ refused-is (AddressAboveOffsetSize start) = (_, _, refl, lit≤ tt, lit< tt)
 refused-is (OutputTooShort size) = (_, _, refl, lit≤ tt, lit< tt)
 refused-is (DepthAboveLimit depth) = (_, _, refl, lit≤ tt, lit< tt)
 refused-is InvalidKeyField = (_, _, refl, lit≤ tt, lit< tt)
+refused-is BaseBeyondFile = (_, _, refl, lit≤ tt, lit< tt)
 
 pub cells-more : (r : Refusal) (m : ℕ) → cells (m + 3) (refusalOf r) ≡ cells 3 (refusalOf r) ++ replicate m 0
 cells-more r m = let s = refused-is r in rw (s .2) (more m (s .0) (s .1) (s .3))

@@ -1,11 +1,11 @@
--- An answer in document 01's terms, and the number and values that it gives to each cause ("Causes and numbers"); 17 is document 02's.
+-- An answer in document 01's terms, and the number and values that it gives to each cause ("Causes and numbers"); 17 and 18 are document 02's.
 use Prim.Native.Nat.{ℕ}
 use mathlib.Core.List.{List, [], _∷_, _++_}
 use mathlib.Core.Bool.{Bool, true, false}
 use lib.ListN.{take, replicate}
 use Rattle.refusal.specs.declared.Refusal.{Refusal}
 use Rattle.refusal.specs.declared.Refusal.the-variants.{UnexpectedEof, InvalidBTreeV2Signature, InvalidBTreeV2Version, InvalidOffsetSize, InvalidLengthSize, ChecksumMismatch, InvalidNodeSize, ZeroRecordSize, TooManyRecords}
-use Rattle.refusal.specs.declared.Refusal.the-variants.{LevelHoldsNone, SubtreeTooThin, RecordBufferLength, CountAboveLengthSize, AddressAboveOffsetSize, OutputTooShort, DepthAboveLimit, InvalidKeyField}
+use Rattle.refusal.specs.declared.Refusal.the-variants.{LevelHoldsNone, SubtreeTooThin, RecordBufferLength, CountAboveLengthSize, AddressAboveOffsetSize, OutputTooShort, DepthAboveLimit, InvalidKeyField, BaseBeyondFile}
 use Rattle.refusal.specs.declared.Verdict.{Verdict}
 use Rattle.refusal.specs.declared.Verdict.the-variants as verdict
 
@@ -38,6 +38,7 @@ refusalOf (AddressAboveOffsetSize start) = refused 14 (start ∷ [])
 refusalOf (OutputTooShort length) = refused 15 (length ∷ [])
 refusalOf (DepthAboveLimit depth) = refused 16 (depth ∷ [])
 refusalOf InvalidKeyField = refused 17 []
+refusalOf BaseBeyondFile = refused 18 []
 
 -- What the verdict of a test says.
 abbrev pub verdictOf : Verdict → Answer

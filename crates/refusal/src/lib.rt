@@ -40,6 +40,8 @@ pub enum Refusal {
     DepthAboveLimit(u16),
     // 17: the key's field has not 1 to 8 bytes, or runs past the record's end
     InvalidKeyField,
+    // 18: the base is beyond the file's length
+    BaseBeyondFile,
 }
 
 // A cause's number and its values, 0 where it has fewer than two.
@@ -87,6 +89,7 @@ impl Refusal {
             Refusal::OutputTooShort(length) => of_two(15, length, 0),
             Refusal::DepthAboveLimit(depth) => of_two(16, depth as u64, 0),
             Refusal::InvalidKeyField => of_two(17, 0, 0),
+            Refusal::BaseBeyondFile => of_two(18, 0, 0),
         }
     }
 }

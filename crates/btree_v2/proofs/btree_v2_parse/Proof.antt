@@ -1,6 +1,7 @@
--- `btree_v2_parse` puts what the header reader answers.
-use mathlib.Core.Path.{refl}
+-- `btree_v2_parse` puts what the header reader answers with base 0.
+use mathlib.Core.Path.{refl, _∙_}
 use Rattle.refusal.proofs.Answers.{put-is}
+use Rattle.btree_v2_header.proofs.Bases.{cells-whole}
 use borrow.Author.Needs.{needs}
 use Rattle.btree_v2.proofs.btree_v2_parse.Statement.{statement}
 use Rattle.btree_v2.proofs.btree_v2_parse.Tie as tie
@@ -10,4 +11,4 @@ btree-v2-parse-spec =
     tie.close
     (tie.spec
     (λ c κs. search needs) (λ c κs. search needs)
-    (λ c. put-is (c .before .before .parse .ensures .answer) refl (c .put-header .ensures)))
+    (λ c. put-is (c .before .before .parse .ensures .answer) refl (c .put-header .ensures) ∙ cells-whole 8 _ _ _ _))

@@ -1,5 +1,6 @@
--- `check_view` tests the record size, and then the leaf.
-use Rattle.btree_v2_leaf_view.proofs.Records.{look-no-bytes, look-tested}
+-- `check_view`: 18, or the tests in the part from the base on.
+use Rattle.read_checks.proofs.Base.{base-within}
+use Rattle.btree_v2_leaf_view.proofs.Records.{look-beyond, look-within}
 use borrow.Author.Needs.{needs}
 use Rattle.btree_v2_leaf_view.proofs.check_view.Statement.{statement}
 use Rattle.btree_v2_leaf_view.proofs.check_view.Tie as tie
@@ -8,6 +9,8 @@ pub check-view-spec : {M : Type 1} → statement M
 check-view-spec =
     tie.close
     (tie.spec
-    (λ c. look-no-bytes _ _ _ _ (c .if1 .taken))
-    (λ c κs. search needs)
-    (λ c. look-tested _ _ _ _ (c .check-leaf .result) (c .before .if1 .left) (c .check-leaf .ensures)))
+    (λ c κs. search needs) (λ c. search needs) (λ c. search needs)
+    (λ c. search look-beyond)
+    (λ c. search base-within) (λ c. search base-within)
+    (λ c. search needs) (λ c κs. search needs)
+    (λ c. search look-within))

@@ -11,6 +11,7 @@ records-of-spec =
     (tie.spec
     (λ c. search needs) (λ c. search needs) (λ c. search needs) (λ c. search needs) (λ c. search needs)
     (λ c. search records-refused)
+    (λ c κs. search needs)
     (λ c. search product-fits)
     (λ c κs. search needs) (λ c κs. search needs)
     (λ c. search records-part))

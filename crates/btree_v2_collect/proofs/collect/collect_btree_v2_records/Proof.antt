@@ -1,5 +1,6 @@
--- The call: nothing to read, the tests before the root, and the root.
-use Rattle.btree_v2_collect.proofs.Calls.{no-records, root-refused, root-read}
+-- The call: 18, or what is collected from the part from the base on.
+use Rattle.read_checks.proofs.Base.{base-within}
+use Rattle.btree_v2_collect.proofs.Bases.{ends-beyond, ends-part}
 use borrow.Author.Needs.{needs}
 use Rattle.btree_v2_collect.proofs.collect.collect_btree_v2_records.Statement.{statement}
 use Rattle.btree_v2_collect.proofs.collect.collect_btree_v2_records.Tie as tie
@@ -8,9 +9,8 @@ pub collect-btree-v2-records-spec : {M : Type 1} → statement M
 collect-btree-v2-records-spec =
     tie.close
     (tie.spec
-    (λ c κs. search needs)
-    (λ c. search no-records)
-    (λ c κs. search needs) (λ c. search needs) (λ c. search needs)
-    (λ c. search root-refused)
-    (λ c κs. search root-read)
-    (λ c. search needs) (λ c. search needs))
+    (λ c κs. search needs) (λ c. search needs) (λ c. search needs) (λ c κs. search needs)
+    (λ c. search ends-beyond)
+    (λ c. search base-within) (λ c. search base-within)
+    (λ c. search needs) (λ c κs. search needs) (λ c. search needs)
+    (λ c. search ends-part))

@@ -1,7 +1,6 @@
--- `parse`: each way out is one of `parsed`.
-use Rattle.read_checks.proofs.Checks.{bytes-there, test-holds, test-fails}
-use Rattle.btree_v2_header.proofs.Headers.{stop-start, stop-signature, stop-fixed, stop-version, stop-offset-size, begun, byte-there, byte-fits}
-use lib.Dec.{lit<}
+-- `parse`: 18, or what is read of the part from the base on.
+use Rattle.read_checks.proofs.Base.{base-within}
+use Rattle.btree_v2_header.proofs.Bases.{parses-beyond, parses-part}
 use borrow.Author.Needs.{needs}
 use Rattle.btree_v2_header.proofs.BTreeV2Header.parse.Statement.{statement}
 use Rattle.btree_v2_header.proofs.BTreeV2Header.parse.Tie as tie
@@ -11,21 +10,8 @@ parse-spec =
     tie.close
     (tie.spec
     (λ c κs. search needs) (λ c. search needs)
-    (λ c. search stop-start)
-    (λ c. search needs) (λ c κs. search needs)
-    (λ c. search (stop-signature, bytes-there, test-fails))
-    (λ c κs. search needs) (λ c. search needs)
-    (λ c. search (stop-fixed, bytes-there, test-holds))
+    (λ c. search parses-beyond)
     (λ c. search needs)
-    (λ c. search (byte-fits, bytes-there, lit<))
-    (λ c. search (byte-there, bytes-there, lit<))
-    (λ c. search (stop-version, bytes-there, test-holds))
-    (λ c κs. search needs)
-    (λ c. search (stop-offset-size, bytes-there, test-holds, test-fails))
-    (λ c κs.
-    let fixed = c .before .before .before .before .before .before in
-    let signed = fixed .before .before in
-    begun _ _ _ (bytes-there _ _ (fixed .ensure-len2 .result) (fixed .ensure-len2 .ensures) (search needs))
-    (test-holds (signed .has-signature .result) _ (signed .has-signature .ensures) (search needs)) (search needs)
-    (test-holds (c .before .is-field-size .result) _ (c .before .is-field-size .ensures) (search needs)))
-    (λ c. search needs))
+    (λ c. search base-within) (λ c. search base-within)
+    (λ c. search needs) (λ c κs. search needs)
+    (λ c. search parses-part))

@@ -1,0 +1,14 @@
+-- `put_header_at`: the fields, or the refusal.
+use Rattle.answers.proofs.Putting.{header-put, header-refused}
+use borrow.Author.Needs.{needs}
+use Rattle.answers.proofs.put_header_at.Statement.{statement}
+use Rattle.answers.proofs.put_header_at.Tie as tie
+
+pub put-header-at-spec : {M : Type 1} → statement M
+put-header-at-spec =
+    tie.close
+    (tie.spec
+    (λ c. search needs) (λ c. search needs) (λ c. search needs) (λ c. search needs) (λ c. search needs)
+    (λ c. search needs) (λ c. search needs) (λ c κs. search needs)
+    (λ c. search header-put)
+    (λ c. search header-refused))
