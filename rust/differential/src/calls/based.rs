@@ -1,6 +1,8 @@
 //! Calls that take a base, and the faults that each of their suites has to notice.
 
 use super::case::{Case, Fault};
+use crate::inputs::Tree;
+use crate::model::LEVEL_LIMIT;
 
 /// A read of the part of a file from a base on.
 pub trait Based: Case + Sized {
@@ -22,7 +24,13 @@ pub trait Based: Case + Sized {
     }
 }
 
-/// Puts a refusal in the place of an answer.
+/// A read of the tree under a header.
+pub trait OfTree: Based {
+    /// The header that the figures come to.
+    fn tree(&self) -> Tree;
+}
+
+/// Puts a refusal, or the acceptance of nothing, in the place of an answer.
 pub fn refuse<C: Case>(case: &C, told: [u64; 3], answer: &mut C::Answer, lent: &mut C::Lent) {
     *lent = case.lend();
     let numbers = answer.as_mut();
@@ -30,6 +38,7 @@ pub fn refuse<C: Case>(case: &C, told: [u64; 3], answer: &mut C::Answer, lent: &
     numbers[..3].copy_from_slice(&told);
 }
 
+/// The faults of every call that takes a base.
 pub fn faults<C: Based>() -> Vec<Fault<C>> {
     vec![
         Fault::<C>::both("the base left out", |case, answer, lent| {
@@ -38,6 +47,10 @@ pub fn faults<C: Based>() -> Vec<Fault<C>> {
         Fault::<C>::both("the base added twice", |case, answer, lent| {
             let twice = case.base().saturating_mul(2);
             C::take(&case.at(twice), answer, lent);
+        }),
+        Fault::<C>::model_alone("a base cut to 32 bits", |case, answer, lent| {
+            let cut = case.base() % (1 << 32);
+            C::take(&case.at(cut), answer, lent);
         }),
         Fault::<C>::both("a base at the file's end refused", |case, answer, lent| {
             if case.base() == case.file().len() as u64 {
@@ -66,4 +79,29 @@ pub fn faults<C: Based>() -> Vec<Fault<C>> {
             }
         }),
     ]
+}
+
+/// Those of every call that reads a tree from a base on.
+pub fn faults_of_trees<C: OfTree>() -> Vec<Fault<C>> {
+    let mut faults = faults();
+    faults.extend([
+        Fault::<C>::model_alone("18 after an empty tree", |case, answer, lent| {
+            if answer.as_ref()[0] == 18 && case.tree().is_empty() {
+                refuse(case, [0, 0, 0], answer, lent);
+            }
+        }),
+        Fault::<C>::model_alone("18 after 8", |case, answer, lent| {
+            let tree = case.tree();
+            if answer.as_ref()[0] == 18 && !tree.is_empty() && tree.geometry.record_size == 0 {
+                refuse(case, [8, 0, 0], answer, lent);
+            }
+        }),
+        Fault::<C>::model_alone("18 after 16", |case, answer, lent| {
+            let tree = case.tree();
+            if answer.as_ref()[0] == 18 && !tree.is_empty() && tree.depth > LEVEL_LIMIT {
+                refuse(case, [16, tree.depth.into(), 0], answer, lent);
+            }
+        }),
+    ]);
+    faults
 }

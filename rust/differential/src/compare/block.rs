@@ -1,12 +1,20 @@
 //! Blocks in front of a file's HDF5 part, and bases.
 
+use crate::inputs::Tree;
 use crate::random::Random;
 
 /// The most bytes of a block.
 const LONGEST: u64 = 200;
 
-/// Any bytes to put in front of a file, at times with the front of a header or a node in them.
-pub fn block(random: &mut Random) -> Vec<u8> {
+/// Puts a block in front of a file; the tree in it gets the base.
+pub fn put_in_front(file: &mut Vec<u8>, tree: &mut Tree, random: &mut Random) {
+    let block = any(random);
+    tree.base = block.len() as u64;
+    file.splice(..0, block);
+}
+
+/// Any bytes, at times with the front of a header or a node before them.
+fn any(random: &mut Random) -> Vec<u8> {
     let length = 1 + random.any_magnitude(LONGEST - 1) as usize;
     let mut block = random.bytes(length);
     let front = [b"BTHD\0\x05", b"BTLF\0\x05", b"BTIN\0\x05"][random.up_to(2) as usize];

@@ -1,7 +1,7 @@
 //! Files whose nodes stand in any order and point at one another at random.
 
-use super::grid;
 use super::nodes::{Form, Pointer};
+use super::{block, grid};
 use crate::inputs::Tree;
 use crate::model::Geometry;
 use crate::random::Random;
@@ -21,7 +21,8 @@ struct Node {
 pub type Records = fn(&mut Random, usize) -> Vec<u8>;
 
 /// A file, and a tree in it: one to three nodes of each level, each pointer to one of those a level
-/// below, and now and then a pointer to another place or a wrong count. Some files are cut.
+/// below, and now and then a pointer to another place or a wrong count. Some files are cut, and some
+/// have a block in front.
 pub fn grafted(records: Records, random: &mut Random) -> (Vec<u8>, Tree) {
     let node_size = NODE_SIZES[random.up_to(4) as usize];
     let record_size = 1 + random.up_to(6) as u16;
@@ -46,7 +47,7 @@ pub fn grafted(records: Records, random: &mut Random) -> (Vec<u8>, Tree) {
         file.truncate(any_end(&form, &nodes, random));
     }
     let root = nodes[nodes.len() - 1];
-    let tree = Tree {
+    let mut tree = Tree {
         tree_type: 5,
         geometry,
         depth,
@@ -55,6 +56,9 @@ pub fn grafted(records: Records, random: &mut Random) -> (Vec<u8>, Tree) {
         total_records: random.number() | 1,
         base: 0,
     };
+    if random.up_to(3) == 0 {
+        block::put_in_front(&mut file, &mut tree, random);
+    }
     (file, tree)
 }
 

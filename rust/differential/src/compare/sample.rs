@@ -2,9 +2,8 @@
 
 use std::ops::Range;
 
-use super::block::block;
 use super::bytes::repeated;
-use super::{grid, rust, Comparison, Held};
+use super::{block, grid, rust, Comparison, Held};
 use crate::calls::write::Draft;
 use crate::calls::{By, Case};
 use crate::inputs::{Leaf, Tree, Writing};
@@ -106,9 +105,8 @@ impl Sample {
     }
 
     /// Puts a block in front of the file.
-    pub fn put_behind(&mut self, block: &[u8]) {
-        self.file.splice(..0, block.iter().copied());
-        self.tree.base += block.len() as u64;
+    pub fn put_behind_a_block(&mut self, random: &mut Random) {
+        block::put_in_front(&mut self.file, &mut self.tree, random);
     }
 
     /// The places in the file of the header and of the image, the parts of it that are read.
@@ -216,6 +214,23 @@ pub fn for_each(
     Ok(())
 }
 
+/// Runs a check on some trees at any geometry, each in a file with a block in front.
+pub fn for_some_behind_blocks(
+    to: &mut Comparison,
+    random: &mut Random,
+    mut check: impl FnMut(&mut Comparison, &mut Sample, &mut Random) -> Held,
+) -> Held {
+    for _ in 0..BLOCKS {
+        if let Some(mut sample) = any(to.by, random) {
+            sample.put_behind_a_block(random);
+            check(to, &mut sample, random)?;
+        }
+    }
+    Ok(())
+}
+
+const BLOCKS: usize = 3_000;
+
 /// The sizes of the small trees, each for a tree by who is compared and for one by the Rust.
 pub fn small_sizes() -> impl Iterator<Item = (Sizes, bool)> {
     let both = |sizes| [(sizes, false), (sizes, true)];
@@ -227,13 +242,6 @@ pub fn small_sizes() -> impl Iterator<Item = (Sizes, bool)> {
 pub fn any(by: By, random: &mut Random) -> Option<Sample> {
     let sizes = any_sizes(random);
     Sample::new(by, sizes, random.up_to(1) == 0, random)
-}
-
-/// The same in a file with a block in front.
-pub fn any_behind_a_block(by: By, random: &mut Random) -> Option<Sample> {
-    let mut sample = any(by, random)?;
-    sample.put_behind(&block(random));
-    Some(sample)
 }
 
 /// Sizes of up to some hundred records at any geometry of the grid.

@@ -7,7 +7,7 @@ use differential::compare::rust;
 use differential::inputs::{Leaf, Tree, Writing};
 use differential::model::Geometry;
 use differential::report::with_rust;
-use nuldrafon::{LeafView, Refusal};
+use nuldrafon::{Header, LeafView, Refusal};
 
 /// A write of zeros.
 fn zeros(records: &[u8], record_count: u64, geometry: Geometry) -> Writing<'_> {
@@ -128,6 +128,34 @@ fn collecting() {
         tree.depth = 33;
         assert_eq!(refused(&tree), Refusal::DepthAboveLimit(33));
         assert_eq!(rust::collect(&leaf, &tree), Err([2, 0, 0]));
+    });
+}
+
+/// A base beyond the file leaves no part to hand to the Rust, which has none: of the whole file it
+/// says where that ends, and of an empty tree it reads nothing.
+#[test]
+fn bases() {
+    with_rust("the Rust has no base, and goes on where 18 refuses", || {
+        let file = empty_leaf();
+        let beyond = file.len() as u64 + 1;
+        let parsed = Header::parse_at(&file, beyond, 0, 8, 8);
+        assert_eq!(parsed, Err(Refusal::BaseBeyondFile));
+        let theirs = rust::parse(&file, beyond, 8, 8);
+        assert_eq!(theirs, [1, beyond + 4, beyond - 1, 0, 0, 0, 0, 0]);
+
+        let tree = Tree {
+            tree_type: 5,
+            geometry: Geometry::new(40, 8, 8),
+            depth: 0,
+            root_address: 0,
+            root_records: 0,
+            total_records: 0,
+            base: beyond,
+        };
+        let refused = typed::header(&tree).collect(&file, &mut []);
+        let refused = refused.expect_err("the base is refused").refusal;
+        assert_eq!(refused, Refusal::BaseBeyondFile);
+        assert_eq!(rust::collect(&[], &tree), Ok(vec![]));
     });
 }
 

@@ -5,16 +5,14 @@ use crate::calls::based::Based;
 use crate::compare::block;
 use crate::compare::causes::{with_causes, with_high_bits};
 use crate::compare::graft::grafted;
-use crate::compare::sample::{self, for_each, Sample, Sizes};
+use crate::compare::sample::{self, for_each, for_some_behind_blocks, Sample, Sizes};
 use crate::compare::{same, Comparison, Held};
 use crate::random::Random;
 
 /// The room in which the trees of small files end, or are not given to the Rust.
 const ROOM: usize = 1 << 16;
-/// Trees at any geometry, in files without and with a block, made-up headers for each small file,
-/// and random graphs of nodes.
+/// Trees at any geometry, made-up headers for each small file, and random graphs of nodes.
 const TREES: usize = 10_000;
-const BLOCKS: usize = 3_000;
 const HEADERS: usize = 4_000;
 const GRAPHS: usize = 120_000;
 /// Images up to this long get every damage of a byte.
@@ -134,15 +132,12 @@ pub fn at_every_base(to: &mut Comparison, random: &mut Random) -> Held {
 /// Trees behind blocks, at any geometry: whole, into an output of any length, from other bases, cut,
 /// and damaged.
 pub fn behind_blocks(to: &mut Comparison, random: &mut Random) -> Held {
-    for _ in 0..BLOCKS {
-        let Some(mut sample) = sample::any_behind_a_block(to.by, random) else {
-            continue;
-        };
-        to.hold_whole("behind blocks", &sample)?;
+    for_some_behind_blocks(to, random, |to, sample, random| {
+        to.hold_whole("behind blocks", sample)?;
         let length = sample.records.len();
         let short = random.up_to(length as u64) as usize;
-        to.hold("behind blocks", &of(&sample, short))?;
-        let whole = of(&sample, length);
+        to.hold("behind blocks", &of(sample, short))?;
+        let whole = of(sample, length);
         for base in block::some(sample.file.len(), random) {
             to.hold("other bases", &whole.at(base))?;
         }
@@ -152,9 +147,8 @@ pub fn behind_blocks(to: &mut Comparison, random: &mut Random) -> Held {
         to.hold("behind blocks, cut", &Collecting { file, ..whole })?;
         let place = image.start + random.up_to(image.len() as u64 - 1) as usize;
         sample.file[place] ^= 1 << random.up_to(7);
-        to.hold("behind blocks, damaged", &of(&sample, length))?;
-    }
-    Ok(())
+        to.hold("behind blocks, damaged", &of(sample, length))
+    })
 }
 
 /// Nodes that point at one another at random, deep ones and shared ones among them.

@@ -1,36 +1,13 @@
 //! Faults of a collecting, for the suite to notice.
 
 use super::Collecting;
-use crate::calls::based::{self, refuse};
+use crate::calls::based::{self, OfTree};
 use crate::calls::Fault;
 
 pub fn faults<'a>() -> Vec<Fault<Collecting<'a>>> {
-    let mut faults = based::faults();
-    faults.extend(of_the_base());
+    let mut faults = based::faults_of_trees();
     faults.extend(of_records());
     faults
-}
-
-/// The order of the tests before the root.
-fn of_the_base<'a>() -> Vec<Fault<Collecting<'a>>> {
-    vec![
-        Fault::<Collecting>::model_alone("18 after an empty tree", |case, answer, _| {
-            if answer[0] == 18 && case.tree().is_empty() {
-                answer[0] = 0;
-            }
-        }),
-        Fault::<Collecting>::model_alone("18 after 8", |case, answer, lent| {
-            if answer[0] == 18 && !case.tree().is_empty() && case.record_size() == 0 {
-                refuse(case, [8, 0, 0], answer, lent);
-            }
-        }),
-        Fault::<Collecting>::model_alone("18 after 16", |case, answer, lent| {
-            let depth = case.tree().depth;
-            if answer[0] == 18 && !case.tree().is_empty() && depth > 32 {
-                refuse(case, [16, depth.into(), 0], answer, lent);
-            }
-        }),
-    ]
 }
 
 /// Records, counts and figures.

@@ -7,7 +7,7 @@ use std::fmt;
 
 use nuldrafon::raw;
 
-use super::based::Based;
+use super::based::{Based, OfTree};
 use super::case::{array, Case, Fault, Told};
 use super::typed;
 use crate::compare::bytes::{beginning, pattern, same_bytes};
@@ -60,6 +60,12 @@ impl Based for Collecting<'_> {
         let mut other = *self;
         other.header[7] = base;
         other
+    }
+}
+
+impl OfTree for Collecting<'_> {
+    fn tree(&self) -> Tree {
+        Tree::of_figures(self.header, self.offset_size)
     }
 }
 
@@ -187,11 +193,6 @@ impl<'a> Collecting<'a> {
             output_length,
             room,
         }
-    }
-
-    /// The header that the figures come to.
-    fn tree(&self) -> Tree {
-        Tree::of_figures(self.header, self.offset_size)
     }
 
     fn record_size(&self) -> usize {

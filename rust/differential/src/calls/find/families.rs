@@ -288,7 +288,7 @@ pub fn behind_blocks(to: &mut Comparison, random: &mut Random) -> Held {
         let Some(mut keyed) = Keyed::new(to, (sizes, by_rust), order, random) else {
             continue;
         };
-        keyed.sample.put_behind(&block::block(random));
+        keyed.sample.put_behind_a_block(random);
         let keys = keyed.some(10, random);
         to.hold_finds("behind blocks", keyed.search(), keys)?;
         for base in block::some(keyed.sample.file.len(), random) {

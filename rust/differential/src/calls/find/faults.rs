@@ -114,7 +114,7 @@ fn bytes(file: &[u8], place: u64, width: u64) -> Vec<u8> {
 }
 
 pub fn faults<'a>() -> Vec<Fault<Finding<'a>>> {
-    let mut faults = based::faults();
+    let mut faults = based::faults_of_trees();
     faults.extend(of_the_base());
     faults.extend(of_the_bound());
     faults.extend(of_what_is_kept());
@@ -124,22 +124,11 @@ pub fn faults<'a>() -> Vec<Fault<Finding<'a>>> {
     faults
 }
 
-/// The base, beside the faults that every call with one has.
+/// The base, beside the faults that every read of a tree has.
 fn of_the_base<'a>() -> Vec<Fault<Finding<'a>>> {
     vec![
         Fault::<Finding>::both("the base added to the place", |case, answer, _| {
             answer[5] += answer[4] * case.base();
-        }),
-        Fault::<Finding>::model_alone("18 after an empty tree", |case, answer, _| {
-            if answer[0] == 18 && case.search.tree().is_empty() {
-                answer[0] = 0;
-            }
-        }),
-        Fault::<Finding>::model_alone("18 after 8", |case, answer, lent| {
-            let tree = case.search.tree();
-            if answer[0] == 18 && !tree.is_empty() && tree.geometry.record_size == 0 {
-                refuse(case, [8, 0, 0], answer, lent);
-            }
         }),
         Fault::<Finding>::model_alone("18 after 17", |case, answer, lent| {
             let tree = case.search.tree();

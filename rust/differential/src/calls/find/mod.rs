@@ -7,7 +7,7 @@ use std::fmt;
 
 use nuldrafon::raw;
 
-use super::based::Based;
+use super::based::{Based, OfTree};
 use super::case::{array, Case, Fault, Told};
 use super::collect::Collecting;
 use super::typed;
@@ -125,6 +125,12 @@ impl Based for Finding<'_> {
             search: self.search.at(base),
             ..*self
         }
+    }
+}
+
+impl OfTree for Finding<'_> {
+    fn tree(&self) -> Tree {
+        self.search.tree()
     }
 }
 

@@ -2,16 +2,14 @@
 
 use crate::compare::block;
 use crate::compare::nodes::Form;
-use crate::compare::sample::{self, for_each, Sample};
+use crate::compare::sample::{self, for_each, for_some_behind_blocks, Sample};
 use crate::compare::{Comparison, Held};
 use crate::inputs::Leaf;
 use crate::model::Geometry;
 use crate::random::Random;
 
-/// Trees at any geometry, in files without and with a block, made-up numbers for each small file,
-/// and looks at each large leaf.
+/// Trees at any geometry, made-up numbers for each small file, and looks at each large leaf.
 const TREES: usize = 3_000;
-const BLOCKS: usize = 2_000;
 const MADE_UP: usize = 500;
 const LOOKS: usize = 40;
 /// Leaves up to this long get every damage of a byte.
@@ -108,12 +106,9 @@ pub fn at_every_base(to: &mut Comparison, random: &mut Random) -> Held {
 /// Leaves behind blocks, at any geometry: as they are, from other bases, with a record size of 0,
 /// cut, and damaged.
 pub fn behind_blocks(to: &mut Comparison, random: &mut Random) -> Held {
-    for _ in 0..BLOCKS {
-        let Some(mut sample) = sample::any_behind_a_block(to.by, random) else {
-            continue;
-        };
-        let leaf = one_of(&sample, random);
-        let looks = [(); 4].map(|()| any_look(&leaf, random));
+    for_some_behind_blocks(to, random, |to, sample, random| {
+        let leaf = one_of(sample, random);
+        let looks = [(); 2].map(|()| any_look(&leaf, random));
         to.hold_looks("behind blocks", &sample.file, &leaf, looks)?;
         for base in block::some(sample.file.len(), random) {
             for record_size in [leaf.record_size, 0] {
@@ -130,9 +125,8 @@ pub fn behind_blocks(to: &mut Comparison, random: &mut Random) -> Held {
         let cut = &sample.file[..place as usize];
         to.hold_looks("behind blocks, cut", cut, &leaf, looks)?;
         sample.file[place as usize] ^= 1 << random.up_to(7);
-        to.hold_looks("behind blocks, damaged", &sample.file, &leaf, looks)?;
-    }
-    Ok(())
+        to.hold_looks("behind blocks, damaged", &sample.file, &leaf, looks)
+    })
 }
 
 /// Leaves with some numbers made up, over the small files, some of which end soon after the records

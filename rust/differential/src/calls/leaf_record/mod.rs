@@ -108,19 +108,14 @@ impl Case for Look<'_> {
     }
 
     fn rattle(&self, [output]: &mut Self::Lent) -> Self::Answer {
-        let Leaf {
-            base,
-            address,
-            count,
-            record_size,
-        } = self.leaf;
+        let (leaf, index) = (self.leaf, self.index);
         raw::leaf_record_at(
             self.file,
-            base,
-            address,
-            count,
-            record_size,
-            self.index,
+            leaf.base,
+            leaf.address,
+            leaf.count,
+            leaf.record_size,
+            index,
             output,
         )
     }

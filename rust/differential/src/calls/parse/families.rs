@@ -2,14 +2,12 @@
 
 use super::Parsing;
 use crate::compare::block;
-use crate::compare::sample::{self, for_each, Sample};
+use crate::compare::sample::{self, for_each, for_some_behind_blocks, Sample};
 use crate::compare::{grid, same, Comparison, Held};
 use crate::model::lookup3;
 use crate::random::Random;
 
-/// Trees at any geometry, in files without and with a block, and files of any bytes.
 const TREES: usize = 10_000;
-const BLOCKS: usize = 3_000;
 const RANDOM: usize = 100_000;
 const SUM: usize = 4;
 
@@ -140,12 +138,9 @@ pub fn at_every_base(to: &mut Comparison, random: &mut Random) -> Held {
 /// Headers behind blocks, at any geometry: as they were written, from other bases, by other sizes,
 /// cut, and damaged.
 pub fn behind_blocks(to: &mut Comparison, random: &mut Random) -> Held {
-    for _ in 0..BLOCKS {
-        let Some(mut sample) = sample::any_behind_a_block(to.by, random) else {
-            continue;
-        };
-        to.hold_written("behind blocks", &sample)?;
-        let whole = header_of(&sample);
+    for_some_behind_blocks(to, random, |to, sample, random| {
+        to.hold_written("behind blocks", sample)?;
+        let whole = header_of(sample);
         for base in block::some(sample.file.len(), random) {
             to.hold("other bases", &Parsing { base, ..whole })?;
         }
@@ -156,7 +151,6 @@ pub fn behind_blocks(to: &mut Comparison, random: &mut Random) -> Held {
         to.hold("behind blocks, cut", &Parsing { file, ..whole })?;
         let place = header.start + random.up_to(header.len() as u64 - 1) as usize;
         sample.file[place] ^= 1 << random.up_to(7);
-        to.hold("behind blocks, damaged", &header_of(&sample))?;
-    }
-    Ok(())
+        to.hold("behind blocks, damaged", &header_of(sample))
+    })
 }
