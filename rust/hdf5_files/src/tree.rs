@@ -1,6 +1,6 @@
 //! A tree in a file: found by its header, collected, and held node by node to the format.
 
-use nuldrafon::{Header, LeafView, NodeInfo};
+use nuldrafon::{Field, Header, LeafView, NodeInfo, Refusal};
 
 use crate::bytes::{number, part, same, Fault};
 use crate::superblock::Sizes;
@@ -26,9 +26,6 @@ impl Tree {
 
     /// With base 0 a tree behind a block does not come out: neither its header nor its records.
     fn only_with_its_base(&self, file: &[u8], sizes: Sizes) -> Result<(), Fault> {
-        if sizes.block == 0 {
-            return Ok(());
-        }
         let header = Header::parse(file, self.at as u64, sizes.offset, sizes.length);
         same("a header with base 0", header.is_err(), true)?;
         let mut header = self.header;
@@ -37,6 +34,32 @@ impl Tree {
         let came = collected.is_ok_and(|collected| collected.records == self.records);
         // A tree without records is accepted unread.
         same("records with base 0", came, self.records.is_empty())
+    }
+
+    /// Nor does it of a copy that ends with its block, or within it, even without records.
+    fn not_of_its_block(&self, file: &[u8], sizes: Sizes) -> Result<(), Fault> {
+        let Sizes { offset, length, .. } = sizes;
+        let (whole, cut) = (&file[..sizes.block], &file[..sizes.block - 1]);
+        let read = |file| Header::parse_at(file, sizes.base(), self.at as u64, offset, length);
+        let nothing_behind = Refusal::UnexpectedEof {
+            expected: self.at as u64 + 4,
+            available: 0,
+        };
+        same(
+            "a header of the block alone",
+            read(whole),
+            Err(nothing_behind),
+        )?;
+        let due = Refusal::BaseBeyondFile;
+        same("a header of a cut block", read(cut), Err(due))?;
+        let collected = self.header.collect_to_vec(cut).map_err(Refusal::from);
+        same("records of a cut block", collected, Err(due))?;
+        let found = self.header.find(cut, Field::new(0, 1), 0);
+        same(
+            "a find in a cut block",
+            found.map_err(Refusal::from),
+            Err(due),
+        )
     }
 }
 
@@ -52,7 +75,10 @@ pub fn trees(file: &[u8], sizes: Sizes) -> Result<Vec<Tree>, Fault> {
         })
         .map(|(at, header)| {
             let tree = tree(file, at, header)?;
-            tree.only_with_its_base(file, sizes)?;
+            if sizes.block > 0 {
+                tree.only_with_its_base(file, sizes)?;
+                tree.not_of_its_block(file, sizes)?;
+            }
             Ok(tree)
         })
         .collect()
