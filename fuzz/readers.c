@@ -128,6 +128,10 @@ static struct call calls[CALLS] = {
               .mends = true},
 };
 
+/* The answers to an input, which guide the fuzzer beside the shadow's branches: those branches are
+ * the same with a base and without. */
+__attribute__((section("__libfuzzer_extra_counters"))) static uint8_t given_now[CALLS][2][CAUSES];
+
 static void tell_all(void) {
     static const char *const bases[2] = {"", " with a base"};
     fprintf(stderr, "agreed on %" PRIu64 " inputs, by the number of the answer\n", inputs);
@@ -217,6 +221,7 @@ static struct source part_of(struct source s) {
 
 static void count(struct call *call, int with_base, const uint64_t *answer) {
     call->counts[with_base][answer[BTREE_V2_REFUSAL]]++;
+    given_now[call - calls][with_base][answer[BTREE_V2_REFUSAL]]++;
     if (call == &calls[FIND]) call->found[with_base] += answer[BTREE_V2_FIND_FOUND];
 }
 
