@@ -28,12 +28,11 @@ pub collected-told : (file out : List ℕ) (h k : BTreeV2Header) (r : Collected)
     → Ends (collectedAt file k out) r exit
 collected-told file out h k r exit e ends = rw e at ends
 
--- Finding.
-module _ (file figures : List ℕ) (ow : ℕ) (f : Field) (x : ℕ) {h : BTreeV2Header} {answer cells : List ℕ} (put : answer ≡ cells)
-    (is : cells ≡ foundAt file h f x) (told : h ≡ headerOf figures ow) where
-  pub found-put : answer ≡ foundAt file (headerOf figures ow) f x
-  found-put = put ∙ is ∙ rw told
+-- Finding; of seven figures the base is 0.
+module _ (file : List ℕ) (f : Field) (x : ℕ) {answer : List ℕ} where
+  pub found-told : {h k : BTreeV2Header} {cells : List ℕ} → answer ≡ cells → cells ≡ foundAt file h f x → h ≡ k → answer ≡ foundAt file k f x
+  found-told put is told = put ∙ is ∙ rw told
 
-  -- Seven figures have no base.
-  pub whole-put : 7 ≡ length figures → answer ≡ found file (headerOf figures ow) f x
-  whole-put seven = found-put ∙ found-whole (headerOf figures ow) f x file (sym (no-base figures (omega arith)))
+  pub found-whole-told : (figures : List ℕ) (ow : ℕ) → answer ≡ foundAt file (headerOf figures ow) f x → 7 ≡ length figures
+      → answer ≡ found file (headerOf figures ow) f x
+  found-whole-told figures ow is seven = is ∙ found-whole (headerOf figures ow) f x file (sym (no-base figures (omega arith)))

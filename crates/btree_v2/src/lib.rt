@@ -218,6 +218,27 @@ pub extern "C" fn btree_v2_collect_at(
     answers::put_collected(answer, collected);
 }
 
+// The record with the key sought, by the header that the figures tell.
+fn find_told(
+    file: &[u8],
+    figures: &[u64],
+    offset_size: u8,
+    key_start: u64,
+    key_width: u64,
+    key: u64,
+    answer: &mut [u64; 6],
+)
+    requires { ⌜ 7 ≤ length (now figures) ⌝ }
+    ensures { λ _. ⌜ now (answer .exit) ≡ foundAt (now (file .entry)) (headerOf (now (figures .entry)) «offset_size») (fieldAt «key_start» «key_width») key ⌝ }
+{
+    let field = Field {
+        start: key_start,
+        width: key_width,
+    };
+    let found = btree_v2_find::find(file, header_of(figures, offset_size), field, key);
+    answers::put_found(answer, found);
+}
+
 // The record of a header's tree that has the key sought in this field. The answer has the refusal's number and two values, zeros where the
 // call is accepted; then, refused or not, the nodes read; then 1 and the record's place, or zeros where none was found.
 #[no_mangle]
@@ -232,12 +253,7 @@ pub extern "C" fn btree_v2_find(
 )
     ensures { λ _. ⌜ now (answer .exit) ≡ found (now (file .entry)) (headerOf (now (header .entry)) «offset_size») (fieldAt «key_start» «key_width») key ⌝ }
 {
-    let field = Field {
-        start: key_start,
-        width: key_width,
-    };
-    let found = btree_v2_find::find(file, header_of(header, offset_size), field, key);
-    answers::put_found(answer, found);
+    find_told(file, header, offset_size, key_start, key_width, key, answer);
 }
 
 // The same in the part of a file from the header's base on, in which the record's place is counted too.
@@ -253,12 +269,7 @@ pub extern "C" fn btree_v2_find_at(
 )
     ensures { λ _. ⌜ now (answer .exit) ≡ foundAt (now (file .entry)) (headerOf (now (header .entry)) «offset_size») (fieldAt «key_start» «key_width») key ⌝ }
 {
-    let field = Field {
-        start: key_start,
-        width: key_width,
-    };
-    let found = btree_v2_find::find(file, header_of(header, offset_size), field, key);
-    answers::put_found(answer, found);
+    find_told(file, header, offset_size, key_start, key_width, key, answer);
 }
 
 // Record `index` of a leaf, copied to the front of the output: its length, 0 where the index is not below the count.

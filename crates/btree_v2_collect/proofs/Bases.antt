@@ -10,6 +10,7 @@ use Rattle.refusal.specs.declared.Verdict.{Verdict}
 use Rattle.refusal.specs.declared.Verdict.the-variants.{Accepted, Refused}
 use Rattle.read_checks.specs.Base.{baseTest}
 use Rattle.read_checks.proofs.Base.{on-part-within, on-part-beyond, on-part-whole, on-part-behind, lent-part, base-within, base-beyond, refused-by-18}
+use Rattle.btree_v2_header.specs.Header.{withBase}
 use Rattle.btree_v2_header.specs.declared.BTreeV2Header.{BTreeV2Header}
 use Rattle.btree_v2_collect.specs.Walk.{stopped, noCounts}
 use Rattle.btree_v2_collect.specs.Collect.{collected, collectedAt}
@@ -38,6 +39,11 @@ module _ (h : BTreeV2Header) (out : List ℕ) where
   pub collected-behind : (block file : List ℕ) → h .base ≡ length block → collectedAt (block ++ file) h out ≡ collected file h out
   unfolding collectedAt
   collected-behind block file e = rw (e, on-part-behind)
+
+-- Collecting in a part goes by the header's other figures.
+pub collected-based : (file : List ℕ) (h : BTreeV2Header) (base : ℕ) (out : List ℕ) → collected file (withBase base h) out ≡ collected file h out
+unfolding collected
+collected-based file h base out = refl
 
 -- The call, by the verdict on the base.
 module _ (file : List ℕ) (h : BTreeV2Header) (out : List ℕ) (v : Verdict) (code : verdictOf v ≡ baseTest file (h .base)) where

@@ -318,15 +318,13 @@ fn collect_root(file: &[u8], header: BTreeV2Header, output: &mut [u8]) -> Collec
 fn ended(verdict: Verdict) -> Collected
     ensures { λ r. ⌜ r ≡ endedBy verdict ⌝ }
 {
-    Collected {
-        verdict,
-        tally: Tally {
-            records: 0,
-            leaves: 0,
-            internals: 0,
-            internal_records: 0,
-        },
-    }
+    let tally = Tally {
+        records: 0,
+        leaves: 0,
+        internals: 0,
+        internal_records: 0,
+    };
+    Collected { verdict, tally }
 }
 
 // Collects the records of the header's tree, which stands in a part of a file.
@@ -348,9 +346,9 @@ fn collect_part(part: &[u8], header: BTreeV2Header, output: &mut [u8]) -> Collec
 pub fn collect_btree_v2_records(file: &[u8], header: BTreeV2Header, output: &mut [u8]) -> Collected
     ensures { λ r. ⌜ Ends (collectedAt (now (file .entry)) header (now (output .entry))) r (now (output .exit)) ⌝ }
 {
-    let tested = read_checks::check_base(file, header.base);
-    let Verdict::Accepted = tested else {
-        return ended(tested);
+    let within = read_checks::check_base(file, header.base);
+    let Verdict::Accepted = within else {
+        return ended(within);
     };
     collect_part(&file[header.base as usize..], header, output)
 }

@@ -170,9 +170,9 @@ fn find_in_part(part: &[u8], header: BTreeV2Header, key: Field, sought: u64) -> 
 pub fn find(file: &[u8], header: BTreeV2Header, key: Field, sought: u64) -> Found
     ensures { λ r. ⌜ foundCells r ≡ foundAt (now (file .entry)) header key sought ⌝ }
 {
-    let tested = read_checks::check_base(file, header.base);
-    let Verdict::Accepted = tested else {
-        return ended(tested, 0);
+    let within = read_checks::check_base(file, header.base);
+    let Verdict::Accepted = within else {
+        return ended(within, 0);
     };
     find_in_part(&file[header.base as usize..], header, key, sought)
 }

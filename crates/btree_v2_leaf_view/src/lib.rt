@@ -43,9 +43,9 @@ fn check_part(part: &[u8], address: u64, count: u16, record_size: u16) -> Verdic
 pub fn check_view(file: &[u8], base: u64, address: u64, count: u16, record_size: u16) -> Verdict
     ensures { λ r. ⌜ verdictOf r ≡ lookTestAt (now (file .entry)) base «record_size» address count ⌝ }
 {
-    let tested = read_checks::check_base(file, base);
-    let Verdict::Accepted = tested else {
-        return tested;
+    let within = read_checks::check_base(file, base);
+    let Verdict::Accepted = within else {
+        return within;
     };
     check_part(&file[base as usize..], address, count, record_size)
 }

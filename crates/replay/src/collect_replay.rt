@@ -23,13 +23,13 @@ fn numbers(collected: Collected) -> [u64; 7]
 }
 
 // Whether collecting the tree of a row from this file has its seven numbers and leaves the bytes that are due in the output.
-fn leaves(list: &[u64; 459], row: usize, file: &[u8], output: &mut [u8], due: &[u8]) -> bool
-    requires { ⌜ row < 27 ⌝ }
+fn leaves(list: &[u64; 846], row: usize, file: &[u8], output: &mut [u8], due: &[u8]) -> bool
+    requires { ⌜ row < 47 ⌝ }
 {
-    let at = 17 * row;
+    let at = 18 * row;
     let collected = collect::collect_btree_v2_records(file, rows::header(list, at + 1), output);
     let found = numbers(collected);
-    if !rows::stand_at(list, at + 10, &found) {
+    if !rows::stand_at(list, at + 11, &found) {
         return false;
     }
     check::same(output, due)
@@ -37,14 +37,14 @@ fn leaves(list: &[u64; 459], row: usize, file: &[u8], output: &mut [u8], due: &[
 
 // The same for the stored bytes: those from `at` to `middle` are the file, those from there to `end` are due in the output.
 fn agrees(
-    list: &[u64; 459],
+    list: &[u64; 846],
     row: usize,
-    bytes: &[u8; 3647],
+    bytes: &[u8; 5811],
     at: usize,
     middle: usize,
     end: usize,
 ) -> bool
-    requires { ⌜ (row < 27) × (at ≤ middle) × (middle ≤ end) × (end ≤ 3647) × (end ≤ middle + 512) ⌝ }
+    requires { ⌜ (row < 47) × (at ≤ middle) × (middle ≤ end) × (end ≤ 5811) × (end ≤ middle + 512) ⌝ }
 {
     let mut output = [MARK; 512];
     let n = end - middle;
@@ -60,15 +60,15 @@ fn agrees(
 
 // The stored answers.
 pub(crate) fn stored() -> Tally
-    ensures { λ r. ⌜ r .agreed + r .differed ≡ 27 ⌝ }
+    ensures { λ r. ⌜ r .agreed + r .differed ≡ 47 ⌝ }
 {
     let list = COLLECT_ROWS;
     let bytes = COLLECT_BYTES;
     let mut tally = Tally::new();
     let mut at = 0;
-    for row in 0..27 {
-        let middle = rows::end(at, 3647, 1024, list[17 * row]);
-        let end = rows::end(middle, 3647, 512, list[17 * row + 9]);
+    for row in 0..47 {
+        let middle = rows::end(at, 5811, 1024, list[18 * row]);
+        let end = rows::end(middle, 5811, 512, list[18 * row + 10]);
         tally = tally.with(agrees(&list, row, &bytes, at, middle, end));
         at = end;
     }
@@ -89,6 +89,7 @@ fn leaf(file: &[u8], due: [u64; 7], record: &[u8]) -> bool {
         root_node_address: 0,
         num_records_in_root: 1,
         total_records: 1,
+        base: 0,
     };
     let mut output = [MARK; 8];
     let collected = collect::collect_btree_v2_records(file, header, &mut output);

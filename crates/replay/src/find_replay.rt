@@ -19,29 +19,29 @@ fn numbers(found: Found) -> [u64; 6]
 }
 
 // Whether finding the key of a row in this file has its six numbers.
-fn agrees(list: &[u64; 1368], row: usize, file: &[u8]) -> bool
-    requires { ⌜ row < 72 ⌝ }
+fn agrees(list: &[u64; 1820], row: usize, file: &[u8]) -> bool
+    requires { ⌜ row < 91 ⌝ }
 {
-    let at = 19 * row;
+    let at = 20 * row;
     let key = Field {
-        start: list[at + 10],
-        width: list[at + 11],
+        start: list[at + 11],
+        width: list[at + 12],
     };
-    let found = btree_v2_find::find(file, rows::header(list, at + 2), key, list[at + 12]);
+    let found = btree_v2_find::find(file, rows::header(list, at + 2), key, list[at + 13]);
     let given = numbers(found);
-    rows::stand_at(list, at + 13, &given)
+    rows::stand_at(list, at + 14, &given)
 }
 
 // The stored answers.
 pub(crate) fn stored() -> Tally
-    ensures { λ r. ⌜ r .agreed + r .differed ≡ 72 ⌝ }
+    ensures { λ r. ⌜ r .agreed + r .differed ≡ 91 ⌝ }
 {
     let list = FIND_ROWS;
     let bytes = FIND_BYTES;
     let mut tally = Tally::new();
-    for row in 0..72 {
-        let at = rows::at_most(971, list[19 * row]);
-        let end = rows::end(at, 971, 971, list[19 * row + 1]);
+    for row in 0..91 {
+        let at = rows::at_most(1102, list[20 * row]);
+        let end = rows::end(at, 1102, 1102, list[20 * row + 1]);
         tally = tally.with(agrees(&list, row, &bytes[at..end]));
     }
     tally

@@ -12,6 +12,8 @@ mod header_answers;
 mod header_replay;
 mod image_answers;
 mod image_replay;
+mod look_answers;
+mod look_replay;
 mod plan_answers;
 mod plan_replay;
 mod rows;
@@ -27,4 +29,5 @@ fn main() {
     collect_replay::stored().print(b"collect, stored answers");
     collect_replay::ends().print(b"collect, ends of a leaf");
     find_replay::stored().print(b"find, stored answers");
+    look_replay::stored().print(b"look, stored answers");
 }

@@ -40,11 +40,12 @@ pub(crate) fn geometry(node_size: u64, record_size: u64, offset_size: u64) -> Ge
     }
 }
 
-// Stored numbers from `at` on as a header: tree type, node size, record size, depth, root address, root records, records in all, offset size.
+// Stored numbers from `at` on as a header: tree type, node size, record size, depth, root address, root records, records in all, base, offset
+// size.
 pub(crate) fn header(list: &[u64], at: usize) -> BTreeV2Header
-    requires { ⌜ at + 8 ≤ length (now list) ⌝ }
+    requires { ⌜ at + 9 ≤ length (now list) ⌝ }
 {
-    let geometry = geometry(list[at + 1], list[at + 2], list[at + 7]);
+    let geometry = geometry(list[at + 1], list[at + 2], list[at + 8]);
     BTreeV2Header {
         tree_type: byte(list[at]),
         geometry,
@@ -52,6 +53,7 @@ pub(crate) fn header(list: &[u64], at: usize) -> BTreeV2Header
         root_node_address: list[at + 4],
         num_records_in_root: number16(list[at + 5]),
         total_records: list[at + 6],
+        base: list[at + 7],
     }
 }
 

@@ -5,13 +5,14 @@ use mathlib.Core.List.{List, [], _∷_, _++_}
 use Prim.Native.Nat.{ℕ, _+_, _-_, _*_, _≤_, _<_}
 use native.Mathlib.Nat.{zero-mul, eq-zero-or-pos}
 use native.Mathlib.Omega.{arith}
-use lib.ListN.{length, getD, take, drop}
+use lib.ListN.{length, getD, take, drop, length-take, length-drop}
 use lib.Seq.{take-at, drop-at}
 use Rattle.numbers.specs.Numbers.{saturated, part}
 use Rattle.refusal.specs.declared.Refusal.{Refusal}
 use Rattle.refusal.specs.Answer.{accepted, refused, cells, verdictOf}
 use Rattle.refusal.proofs.Answers.{refused-is}
 use Rattle.plan.specs.declared.PlanAnswer.{PlanAnswer}
+use Rattle.plan.specs.declared.PlanAnswer.the-variants.{Planned}
 use Rattle.plan.specs.declared.BTreeV2Plan.{BTreeV2Plan}
 use Rattle.plan.specs.Tree
 use Rattle.plan.specs.Planned.{planFigures, planAnswerOf}
@@ -22,8 +23,10 @@ use Rattle.format.specs.Request.{depthOf, treeOf, nodesOf, rootOf, rootRecordsO
 use Rattle.write_checks.specs.Writing.{written, headerExit, imageExit}
 use Rattle.numbers.specs.Places.{over}
 use Rattle.btree_v2_collect.specs.Walk.{Counts, fine, noCounts}
-use Rattle.btree_v2_header.specs.Header.{headerFigures, headerAt, parsed}
-use Rattle.btree_v2_collect.specs.Collect.{collected, runCells, runOutput, countCells}
+use Rattle.btree_v2_header.specs.Header.{headerFigures, headerAt, withBase, carrying, parsed, parsedAt}
+use Rattle.btree_v2_header.proofs.Bases.{parsed-within}
+use Rattle.btree_v2_collect.proofs.Bases.{collected-within, collected-based}
+use Rattle.btree_v2_collect.specs.Collect.{collected, collectedAt, runCells, runOutput, countCells}
 use Rattle.round_trip.specs.Return.{headerWritten, Returned}
 use Rattle.write_checks.proofs.Accepted.{Accepts, accepts, plan-accepted}
 use Rattle.write_checks.proofs.Fitting.{image-long}
@@ -41,7 +44,7 @@ use Rattle.btree_v2_header.specs.Answers.{headerAnswerOf, Parses}
 use Rattle.btree_v2_collect.specs.Answers.{collectedCells}
 use Rattle.round_trip.specs.declared.RoundTrip.{RoundTrip}
 use Rattle.round_trip.specs.Nodes.{nodeRecords}
-use Rattle.round_trip.specs.ThreeCalls.{Lent, onHeader, onParsed, Collects, readBack, Holds, NodesCounted, Complete, Answered}
+use Rattle.round_trip.specs.ThreeCalls.{Lent, partOf, onHeader, onParsed, Collects, readBack, Holds, NodesCounted, Complete, Answered}
 use Rattle.round_trip.proofs.Roots.{root-address, root-records}
 
 -- An accepted walk's cells: the verdict accepts, and each count is the walk's, saturated.
@@ -93,7 +96,7 @@ no-bytes (x ∷ l) e = absurd (omega arith)
 -- An accepted write, a file that holds what it left, and an output that is long enough.
 module _ (q : Request) (p : BTreeV2Plan) (s : Lent) (ok : written q (s .records) (s .header) (s .image) ≡ accepted (figuresOf p))
     (small : q .geometry .«record_size» < 65536) (h i : List ℕ) (left : h ≡ headerExit q (s .records) (s .header) (s .image))
-    (image : i ≡ imageExit q (s .records) (s .header) (s .image)) (holds : Holds q p (s .file) (s .place) h i)
+    (image : i ≡ imageExit q (s .records) (s .header) (s .image)) (holds : Holds q p (partOf s) (s .place) h i)
     (long : q .«record_count» * q .geometry .«record_size» ≤ length (s .output)) where
   accept : Accepts q (s .records)
   accept = accepts q (s .records) (s .header) (s .image) (figuresOf p) ok
@@ -108,35 +111,49 @@ module _ (q : Request) (p : BTreeV2Plan) (s : Lent) (ok : written q (s .records)
   few : q .«record_count» ≤ 16777215
   few = omega (arith, checked .0 .pass)
 
-  header-stands : part (s .file) (s .place) (headerSize (q .geometry .«offset_size») (q .«length_size»)) ≡ headerOf q
+  header-stands : part (partOf s) (s .place) (headerSize (q .geometry .«offset_size») (q .«length_size»)) ≡ headerOf q
   header-stands =
       holds .header
       ∙ rw (left, header-put q (s .records) (s .header) (s .image) (figuresOf p) ok)
       (front-over (headerOf q) (s .header) (headerSize (q .geometry .«offset_size») (q .«length_size»)) (length-headerOf q))
 
-  header-back : parsed (s .file) (s .place) (q .geometry .«offset_size») (q .«length_size») ≡ accepted (headerFigures (headerWritten q))
-  header-back = returns-header q (s .records) (s .header) (s .image) (figuresOf p) ok small (s .file) (s .place) header-stands
+  -- The base is within the file, since the header stands behind it.
+  within : s .base ≤ length (s .file)
+  within =
+      let stands : length (part (partOf s) (s .place) (headerSize (q .geometry .«offset_size») (q .«length_size»))) ≡ headerSize (q .geometry .«offset_size») (q .«length_size») =
+      rw header-stands (length-headerOf q)
+      in
+      let long = simp (length-take, length-drop) at stands in
+      omega (arith, long)
 
-  header-there : headerAt (s .file) (s .place) (q .geometry .«offset_size») (q .«length_size») ≡ headerWritten q
-  header-there = returns-fields q (s .records) (s .header) (s .image) (figuresOf p) ok small (s .file) (s .place) header-stands
+  header-back : parsedAt (s .file) (s .base) (s .place) (q .geometry .«offset_size») (q .«length_size»)
+      ≡ accepted (headerFigures (headerWritten q) ++ (s .base ∷ []))
+  header-back =
+      parsed-within (s .file) (s .base) (s .place) _ _ within
+      ∙ ap (carrying (s .base)) (returns-header q (s .records) (s .header) (s .image) (figuresOf p) ok small (partOf s) (s .place) header-stands)
+
+  header-there : headerAt (partOf s) (s .place) (q .geometry .«offset_size») (q .«length_size») ≡ headerWritten q
+  header-there = returns-fields q (s .records) (s .header) (s .image) (figuresOf p) ok small (partOf s) (s .place) header-stands
 
   -- The output with the records written at its front.
   abbrev filled : List ℕ
   filled = s .records ++ drop (q .«record_count» * q .geometry .«record_size») (s .output)
 
-  module _ (r : RoundTrip) (o : List ℕ) (read : headerAnswerOf (r .header) ≡ parsed (s .file) (s .place) (q .geometry .«offset_size») (q .«length_size»))
+  module _ (r : RoundTrip) (o : List ℕ) (read : headerAnswerOf (r .header) ≡ parsedAt (s .file) (s .base) (s .place) (q .geometry .«offset_size») (q .«length_size»))
       (run : Collects (readBack q s) (r .collected) o) where
     -- All but the counts, where collecting ends with the records put out.
-    module _ (c : Counts) (ends : collected (s .file) (headerWritten q) (s .output) ≡ fine c filled) (all : c .records ≡ q .«record_count») where
+    module _ (c : Counts) (ends : collected (partOf s) (headerWritten q) (s .output) ≡ fine c filled) (all : c .records ≡ q .«record_count») where
       whole : readBack q s ≡ fine c filled
       unfolding readBack
-      whole = rw (header-back, header-there) ends
+      whole =
+          rw (header-back, header-there)
+          (collected-within (withBase (s .base) (headerWritten q)) (s .output) (s .file) within ∙ collected-based (partOf s) (headerWritten q) (s .base) (s .output) ∙ ends)
 
       tells : CellsSay (r .collected .verdict) (r .collected .tally) c
       unfolding runCells
       tells = cells-say (r .collected .verdict) (r .collected .tally) c (rw whole at (run .cells))
 
-      with-counts : (1 ≤ q .«record_count» → NodesCounted q p (r .collected .tally)) → Complete q p (s .records) (s .output) r o
+      with-counts : (1 ≤ q .«record_count» → NodesCounted q p (r .collected .tally)) → Complete q p s r o
       unfolding headerWritten
       with-counts counts =
           let t = tells in
@@ -152,28 +169,28 @@ module _ (q : Request) (p : BTreeV2Plan) (s : Lent) (ok : written q (s .records)
             counts = counts;
           }
 
-    none-complete : q .«record_count» ≡ 0 → Complete q p (s .records) (s .output) r o
+    none-complete : q .«record_count» ≡ 0 → Complete q p s r o
     none-complete z =
         let empty : s .records ≡ [] = no-bytes (s .records) (rw (z, zero-mul) at (accept .records)) in
         let same-output : s .output ≡ filled = rw (empty, z, zero-mul) in
-        let ends : collected (s .file) (headerWritten q) (s .output) ≡ fine noCounts filled =
-        returns-none q (s .records) (s .header) (s .image) (figuresOf p) ok small (s .file) (s .place) (s .output) z ∙ ap (fine noCounts) same-output
+        let ends : collected (partOf s) (headerWritten q) (s .output) ≡ fine noCounts filled =
+        returns-none q (s .records) (s .header) (s .image) (figuresOf p) ok small (partOf s) (s .place) (s .output) z ∙ ap (fine noCounts) same-output
         in
         with-counts noCounts ends (sym z) (λ some. absurd (omega arith))
 
     module _ (some : 1 ≤ q .«record_count») where
-      image-stands : part (s .file) (q .start) (nodesOf q * q .geometry .«node_size») ≡ imageOf q (s .records)
+      image-stands : part (partOf s) (q .start) (nodesOf q * q .geometry .«node_size») ≡ imageOf q (s .records)
       image-stands =
           rw (same .nodes) at (holds .nodes)
           ∙ rw (image, image-put q (s .records) (s .header) (s .image) (figuresOf p) ok)
           (front-over (imageOf q (s .records)) (s .image) (nodesOf q * q .geometry .«node_size») (image-long q (s .records) accept some))
 
-      back : Returned q (s .records) (s .file) (s .place) (s .output)
+      back : Returned q (s .records) (partOf s) (s .place) (s .output)
       back =
-          returns q (s .records) (s .header) (s .image) (figuresOf p) ok small (s .file) (s .place) (s .output) some
+          returns q (s .records) (s .header) (s .image) (figuresOf p) ok small (partOf s) (s .place) (s .output) some
           (record { header = header-stands; nodes = image-stands }) long
 
-      some-complete : Complete q p (s .records) (s .output) r o
+      some-complete : Complete q p s r o
       some-complete =
           let b = back in
           let t = tells (b .counts) (b .output) (b .records) in
@@ -185,13 +202,13 @@ module _ (q : Request) (p : BTreeV2Plan) (s : Lent) (ok : written q (s .records)
             atMost = rw (same .nodes) (b .atMost);
           })
 
-    pub complete : Complete q p (s .records) (s .output) r o
+    pub complete : Complete q p s r o
     complete = ⊎-elim none-complete some-complete (eq-zero-or-pos (q .«record_count»))
 
 -- `collect_parsed`, by the header reader's answer.
 module _ (file out : List ℕ) (p : HeaderAnswer) where
   pub collects-parsed : (found : BTreeV2Header) (c : Collected) (o : List ℕ) → p ≡ header.Parsed found
-      → collectedCells c ≡ runCells (collected file found out) → o ≡ runOutput (collected file found out) → Collects (onParsed p file out) c o
+      → collectedCells c ≡ runCells (collectedAt file found out) → o ≡ runOutput (collectedAt file found out) → Collects (onParsed p file out) c o
   collects-parsed found c o e hc ho = rw e (record { cells = hc; output = ho })
 
   pub collects-refused : (cause : Refusal) → p ≡ header.Refused cause → Collects (onParsed p file out) (nothing cause) out
@@ -199,20 +216,20 @@ module _ (file out : List ℕ) (p : HeaderAnswer) where
   collects-refused cause e = let t = refused-is cause in record { cells = rw (e, t .2); output = rw (e, t .2) }
 
 -- The header reader's own answer leads on as the definition's.
-leads-on : (file out : List ℕ) (o ow lw : ℕ) (p : HeaderAnswer) → Parses file o ow lw p
-    → onParsed p file out ≡ onHeader (parsed file o ow lw) (headerAt file o ow lw) file out
-leads-on file out o ow lw (header.Parsed h) is = rw (← is .answer, ← is .fields h refl)
-leads-on file out o ow lw (header.Refused r) is = let t = refused-is r in rw (← is .answer, t .2)
+leads-on : (file out : List ℕ) (base o ow lw : ℕ) (p : HeaderAnswer) → Parses file base o ow lw p
+    → onParsed p file out ≡ onHeader (parsedAt file base o ow lw) (withBase base (headerAt (drop base file) o ow lw)) file out
+leads-on file out base o ow lw (header.Parsed h) is = rw (← is .answer, ← is .fields h refl)
+leads-on file out base o ow lw (header.Refused r) is = let t = refused-is r in rw (← is .answer, t .2)
 
 -- The three calls.
 module _ (q : Request) (s : Lent) (x : PlanAnswer) (h i : List ℕ) (p : HeaderAnswer) (c : Collected) (o : List ℕ) where
   pub answered : q .geometry .«record_size» < 65536 → planAnswerOf x ≡ written q (s .records) (s .header) (s .image)
       → h ≡ headerExit q (s .records) (s .header) (s .image) → i ≡ imageExit q (s .records) (s .header) (s .image)
-      → Parses (s .file) (s .place) (q .geometry .«offset_size») (q .«length_size») p → Collects (onParsed p (s .file) (s .output)) c o
+      → Parses (s .file) (s .base) (s .place) (q .geometry .«offset_size») (q .«length_size») p → Collects (onParsed p (s .file) (s .output)) c o
       → Answered q s (record { written = x; header = p; collected = c }) h i o
   unfolding readBack
   answered small wrote hl il parses collects =
-      let run : Collects (readBack q s) c o = rw (leads-on (s .file) (s .output) (s .place) _ _ p parses) at collects in
+      let run : Collects (readBack q s) c o = rw (leads-on (s .file) (s .output) (s .base) (s .place) _ _ p parses) at collects in
       record {
         written = wrote;
         headerLeft = hl;
@@ -221,3 +238,10 @@ module _ (q : Request) (s : Lent) (x : PlanAnswer) (h i : List ℕ) (p : HeaderA
         collected = run;
         complete = λ plan e holds long. complete q plan s (sym wrote ∙ ap planAnswerOf e) small h i hl il holds long _ o (parses .answer) run;
       }
+
+-- The same in a file that has a block in front: what the write left stands in the part behind it.
+pub returns-behind : (q : Request) (p : BTreeV2Plan) (s : Lent) (r : RoundTrip) (h i o : List ℕ) → Answered q s r h i o → r .written ≡ Planned p
+    → (block file : List ℕ) → s .file ≡ block ++ file → s .base ≡ length block → Holds q p file (s .place) h i
+    → q .«record_count» * q .geometry .«record_size» ≤ length (s .output) → Complete q p s r o
+returns-behind q p s r h i o answers e block file is base holds =
+    let behind : partOf s ≡ file = rw (is, base) (drop-at block file (length block) refl) in answers .complete p e (rw behind holds)

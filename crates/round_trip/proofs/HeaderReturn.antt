@@ -79,6 +79,7 @@ module _ (sum-fits : (xs : List ℕ) → lookup3 xs < 256 ^ 4) (file : List ℕ)
           «root_node_address» = root;
           «num_records_in_root» = rootRecords;
           «total_records» = n;
+          base = 0;
         }
 
     abbrev ow : ℕ

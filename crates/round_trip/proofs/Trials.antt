@@ -1,6 +1,6 @@
 -- The definitions computed on small trees and files, beside the answers due. Bytes, headers read, records collected and the reading calls'
 -- refusals 1 to 6 with their figures are what the Rust gave for the same input; counts, what a refused collecting leaves, and a write's
--- refusals and 8, 15 and 16 are document 01's.
+-- refusals and 8, 15 and 16 are document 01's, 18 is document 02's.
 use mathlib.Core.Path.{_≡_, refl}
 use mathlib.Core.List.{List, [], _∷_, _++_, reverse}
 use Prim.Native.Nat.{ℕ, zero, suc, _+_, _-_, _*_, _%_}
@@ -16,13 +16,14 @@ use Rattle.format.specs.Bytes.{summed, padded, pointerBytes, address, recordRan
 use Rattle.format.specs.declared.Request.{Request}
 use Rattle.format.specs.Request.{nodesOf, imageOf, rootOf, rootRecordsOf, headerOf}
 use Rattle.write_checks.specs.Writing.{writeAnswer, written, headerExit, imageExit}
-use Rattle.btree_v2_collect.specs.Walk.{putRecord, putRecords, leafRun, childRun, ownRecordRun, childrenRun, nodeRun}
+use Rattle.btree_v2_collect.specs.Walk.{Run, putRecord, putRecords, leafRun, childRun, ownRecordRun, childrenRun, nodeRun}
 use Rattle.btree_v2_internal.specs.Internal.{pointerPlace, childAddress, childRecords, internalBody, internalTest}
 use Rattle.read_checks.specs.Tests.{same, frontTest, checksumTest, rootTest}
 use Rattle.btree_v2_header.specs.declared.BTreeV2Header.{BTreeV2Header}
-use Rattle.btree_v2_header.specs.Header.{headerAt, parsed}
+use Rattle.read_checks.specs.Base.{onPart}
+use Rattle.btree_v2_header.specs.Header.{headerAt, withBase, parsed, parsedAt}
 use Rattle.btree_v2_leaf.specs.Leaf.{leafBody, leafTest}
-use Rattle.btree_v2_collect.specs.Collect.{collectTests, collected, runCells, runOutput}
+use Rattle.btree_v2_collect.specs.Collect.{collectTests, collected, collectedAt, runCells, runOutput}
 
 -- w bytes as a hexadecimal number shows them, and nodes of w bytes one after another.
 dump : ℕ → ℕ → List ℕ
@@ -73,11 +74,18 @@ refusing q recsLength headerLength imageLength answer =
 reading : List ℕ → ℕ → ℕ → ℕ → List ℕ → Trial
 reading file o ow lw answer = record { found = cells 8 (parsed file o ow lw); due = answer }
 
+readingAt : List ℕ → ℕ → ℕ → ℕ → ℕ → List ℕ → Trial
+readingAt file base o ow lw answer = record { found = cells 9 (parsedAt file base o ow lw); due = answer }
+
 -- A collecting into an output of n bytes, of which the first k are then the records put out.
+ending : Run → ℕ → List ℕ → ℕ → Trial
+ending r n answer k = record { found = runCells r ++ runOutput r; due = answer ++ (ramp k ++ lent (n - k)) }
+
 collecting : List ℕ → BTreeV2Header → ℕ → List ℕ → ℕ → Trial
-collecting file h n answer k =
-    let r = collected file h (lent n) in
-    record { found = runCells r ++ runOutput r; due = answer ++ (ramp k ++ lent (n - k)) }
+collecting file h n answer k = ending (collected file h (lent n)) n answer k
+
+collectingAt : List ℕ → ℕ → BTreeV2Header → ℕ → List ℕ → ℕ → Trial
+collectingAt file base h n answer k = ending (collectedAt file (withBase base h) (lent n)) n answer k
 
 request : ℕ → ℕ → ℕ → ℕ → ℕ → ℕ → ℕ → Request
 request treeType n rs ns ow lw start =
@@ -98,6 +106,7 @@ header ns rs ow depth root rootRecords records =
       «root_node_address» = root;
       «num_records_in_root» = rootRecords;
       «total_records» = records;
+      base = 0;
     }
 
 -- What the Rust wrote: 40/8/8 with 3 records; 40/8/2 with 4; 40/8/8 with 8, to stand behind 7 bytes and the header; 26/8/4 with 2; 10/8/8
@@ -237,18 +246,40 @@ collects =
     leaf : List ℕ → List ℕ → ℕ → Trial
     leaf file answer k = collecting file (header 40 8 3 0 0 3 3) 25 answer k
 
+-- Behind a block of 100 bytes: the figures of 1 are those of the part behind it, and 18 comes before all else.
+behind : List Trial
+behind =
+    readingAt (lent 100 ++ eightFile) 100 7 8 8 (0 ∷ 6 ∷ 40 ∷ 8 ∷ 2 ∷ 285 ∷ 1 ∷ 8 ∷ 100 ∷ [])
+    ∷ readingAt (take 120 (lent 100 ++ eightFile)) 100 7 8 8 (1 ∷ 23 ∷ 20 ∷ zeros)
+    ∷ readingAt (lent 100) 100 0 8 8 (1 ∷ 4 ∷ 0 ∷ zeros)
+    ∷ readingAt (lent 100) 101 0 8 8 (18 ∷ 0 ∷ 0 ∷ zeros)
+    ∷ readingAt [] 0 0 8 8 (1 ∷ 4 ∷ 0 ∷ zeros)
+    ∷ readingAt [] 18446744073709551615 0 3 3 (18 ∷ 0 ∷ 0 ∷ zeros)
+    ∷ collectingAt (lent 100 ++ eightFile) 100 (header 40 8 8 2 285 1 8) 67 (0 ∷ 0 ∷ 0 ∷ 8 ∷ 4 ∷ 3 ∷ 3 ∷ []) 64
+    ∷ collectingAt (lent 100 ++ take 290 eightFile) 100 (header 40 8 8 2 285 1 8) 64 (1 ∷ 291 ∷ 290 ∷ none) 0
+    ∷ collectingAt (lent 100 ++ take 298 eightFile) 100 (header 40 8 8 2 285 1 8) 64 (1 ∷ 14 ∷ 13 ∷ none) 0
+    ∷ collectingAt [] 0 (header 40 0 8 33 285 1 0) 64 (0 ∷ 0 ∷ 0 ∷ none) 0
+    ∷ collectingAt [] 1 (header 40 0 8 33 285 1 0) 64 (18 ∷ 0 ∷ 0 ∷ none) 0
+    ∷ []
+  where
+    zeros : List ℕ
+    zeros = 0 ∷ 0 ∷ 0 ∷ 0 ∷ 0 ∷ 0 ∷ []
+
+    none : List ℕ
+    none = 0 ∷ 0 ∷ 0 ∷ 0 ∷ []
+
 -- The numbers of the trials that disagree.
 disagreeing : ℕ → List Trial → List ℕ
 disagreeing i [] = []
 disagreeing i (t ∷ ts) = let rest = disagreeing (i + 1) ts in pick (same (t .found) (t .due)) rest (i ∷ rest)
 
-agree : disagreeing 0 (writes ++ (reads ++ collects)) ≡ []
+agree : disagreeing 0 (writes ++ (reads ++ (collects ++ behind))) ≡ []
 unfolding computed rootTest le unle num leastFrom width fieldSize stored cells leafCapacity countWidth internalCapacity subtreeCapacity
     totalWidth nodeCapacity sumKids between count size below nodes leaves taken distributed children kidsOf planTree anyOf thin
     leastLevel planDepth emptyLevel planned planFigures planAnswer summed padded pointerBytes address recordRange leafBytes pointer pointers ownRecords internalBytes
     kidsImage image headerBytes over nodesOf imageOf rootOf rootRecordsOf headerOf writeAnswer written headerExit imageExit putRecord
     putRecords pointerPlace childAddress childRecords leafRun childRun ownRecordRun childrenRun nodeRun same frontTest checksumTest headerAt
     parsed leafBody leafTest internalBody internalTest collectTests collected runCells dump dumps rampFrom ramp lent writing summing refusing reading
-    collecting request header threeHeader threeImage fourHeader fourImage eightHeader eightImage eightFile twoHeader twoImage noneHeader
+    collecting onPart parsedAt collectedAt readingAt ending collectingAt behind request header threeHeader threeImage fourHeader fourImage eightHeader eightImage eightFile twoHeader twoImage noneHeader
     noneImage writes reads collects disagreeing
 agree = refl

@@ -31,6 +31,7 @@ headerWritten q =
       «root_node_address» = rootOf q;
       «num_records_in_root» = rootRecordsOf q;
       «total_records» = q .«record_count»;
+      base = 0;
     }
 
 -- What both readers give: the header as written; all records at the front of the output, in order, its other bytes as they were; and the

@@ -1,5 +1,5 @@
 -- A write, the header reader and the collector, one after another: what they answer and leave, and the complete return of records as a claim on
--- what the three calls returned. From document 01, "Collecting".
+-- what the three calls returned. From document 01, "Collecting", and document 02, "Two".
 use mathlib.Core.Path.{_≡_}
 use mathlib.Core.List.{List, [], _∷_}
 use Prim.Native.Nat.{ℕ, _+_, _-_, _*_, _≤_}
@@ -27,27 +27,33 @@ use Rattle.btree_v2_collect.specs.Answers.{collectedCells}
 use Rattle.round_trip.specs.declared.RoundTrip.{RoundTrip}
 use Rattle.round_trip.specs.Nodes.{nodeRecords}
 
--- What the three calls are lent: the record list, the header buffer, the image buffer, the file, the place of the header in it, and the output.
+-- What the three calls are lent: the record list, the header buffer, the image buffer, the file, the base, the place of the header in the
+-- part from the base on, and the output.
 pub record Lent : Type 0 where
   pub records : List ℕ
   pub header : List ℕ
   pub image : List ℕ
   pub file : List ℕ
+  pub base : ℕ
   pub place : ℕ
   pub output : List ℕ
 
-abbrev pub lent : List ℕ → List ℕ → List ℕ → List ℕ → ℕ → List ℕ → Lent
-lent records header image file place output =
-    record { records = records; header = header; image = image; file = file; place = place; output = output }
+abbrev pub lent : List ℕ → List ℕ → List ℕ → List ℕ → ℕ → ℕ → List ℕ → Lent
+lent records header image file base place output =
+    record { records = records; header = header; image = image; file = file; base = base; place = place; output = output }
+
+-- The part of the file from the base on.
+abbrev pub partOf : Lent → List ℕ
+partOf s = drop (s .base) (s .file)
 
 -- Collecting the tree of the header that was read; a refused header ends the reading with its refusal.
 abbrev pub onHeader : Answer → BTreeV2Header → List ℕ → List ℕ → Run
-onHeader (accepted figures) h file output = collector.collected file h output
+onHeader (accepted figures) h file output = collector.collectedAt file h output
 onHeader (refused number values) h file output = stopped number values noCounts output
 
 -- The same by the header reader's own answer.
 abbrev pub onParsed : HeaderAnswer → List ℕ → List ℕ → Run
-onParsed (header.Parsed h) file output = collector.collected file h output
+onParsed (header.Parsed h) file output = collector.collectedAt file h output
 onParsed (header.Refused r) file output = ifPassed (refusalOf r) noCounts output (fine noCounts output)
 
 -- A collecting's answer and the output at exit are those of a run.
@@ -60,10 +66,10 @@ unfoldable pub readBack : Request → Lent → Run
 readBack q s =
     let ow = q .geometry .«offset_size» in
     let lw = q .«length_size» in
-    onHeader (reader.parsed (s .file) (s .place) ow lw) (reader.headerAt (s .file) (s .place) ow lw) (s .file) (s .output)
+    onHeader (reader.parsedAt (s .file) (s .base) (s .place) ow lw) (reader.withBase (s .base) (reader.headerAt (partOf s) (s .place) ow lw)) (s .file) (s .output)
 
--- The file holds, at the place, the header's bytes that the write left, and from start on the bytes of its nodes, NS for each of the nodes that
--- it answered.
+-- A file, or the part of one, holds at the place the header's bytes that the write left, and from start on the bytes of its nodes, NS for each
+-- of the nodes that it answered.
 pub record Holds (q : Request) (p : BTreeV2Plan) (file : List ℕ) (place : ℕ) (headerLast imageLast : List ℕ) : Type 0 where
   pub header : part file place (headerSize (q .geometry .«offset_size») (q .«length_size»)) ≡ take (headerSize (q .geometry .«offset_size») (q .«length_size»)) headerLast
   pub nodes : part file (q .start) (p .nodes * q .geometry .«node_size») ≡ take (p .nodes * q .geometry .«node_size») imageLast
@@ -76,9 +82,9 @@ pub record NodesCounted (q : Request) (p : BTreeV2Plan) (t : Tally) : Type 0 whe
   pub allNodes : t .leaves + t .internals ≡ p .nodes
   pub atMost : p .nodes ≤ q .«record_count»
 
--- What demand 3 lists, of that plan: the header as written, its root the last of the nodes; collecting accepted; the records written at the front
+-- What demand 3 lists, of that plan: the header as written, its root the last of the nodes, and the base; collecting accepted; the records written at the front
 -- of the output, and its other bytes as they were; N records put out; and the counts where there is a record: the leaf of none is not read.
-pub record Complete (q : Request) (p : BTreeV2Plan) (recs out : List ℕ) (r : RoundTrip) (outputLast : List ℕ) : Type 0 where
+pub record Complete (q : Request) (p : BTreeV2Plan) (s : Lent) (r : RoundTrip) (outputLast : List ℕ) : Type 0 where
   pub header : headerAnswerOf (r .header)
       ≡ accepted
       (q .«tree_type»
@@ -88,19 +94,20 @@ pub record Complete (q : Request) (p : BTreeV2Plan) (recs out : List ℕ) (r : R
       ∷ address q (p .nodes - 1)
       ∷ nodeRecords q (p .nodes - 1)
       ∷ q .«record_count»
+      ∷ s .base
       ∷ [])
   pub collected : verdictOf (r .collected .verdict) ≡ accepted []
-  pub front : take (q .«record_count» * q .geometry .«record_size») outputLast ≡ recs
-  pub rest : drop (q .«record_count» * q .geometry .«record_size») outputLast ≡ drop (q .«record_count» * q .geometry .«record_size») out
+  pub front : take (q .«record_count» * q .geometry .«record_size») outputLast ≡ s .records
+  pub rest : drop (q .«record_count» * q .geometry .«record_size») outputLast ≡ drop (q .«record_count» * q .geometry .«record_size») (s .output)
   pub putOut : r .collected .tally .records ≡ q .«record_count»
   pub counts : 1 ≤ q .«record_count» → NodesCounted q p (r .collected .tally)
 
--- The three calls: the answers and the buffers at exit are those of the three definitions; and demand 3.
+-- The three calls: the answers and the buffers at exit are those of the three definitions; and demand 3, of what the part from the base on holds.
 pub record Answered (q : Request) (s : Lent) (r : RoundTrip) (headerLast imageLast outputLast : List ℕ) : Type 0 where
   pub written : planAnswerOf (r .written) ≡ writer.written q (s .records) (s .header) (s .image)
   pub headerLeft : headerLast ≡ headerExit q (s .records) (s .header) (s .image)
   pub imageLeft : imageLast ≡ imageExit q (s .records) (s .header) (s .image)
-  pub parsed : headerAnswerOf (r .header) ≡ reader.parsed (s .file) (s .place) (q .geometry .«offset_size») (q .«length_size»)
+  pub parsed : headerAnswerOf (r .header) ≡ reader.parsedAt (s .file) (s .base) (s .place) (q .geometry .«offset_size») (q .«length_size»)
   pub collected : Collects (readBack q s) (r .collected) outputLast
-  pub complete : (p : BTreeV2Plan) → r .written ≡ Planned p → Holds q p (s .file) (s .place) headerLast imageLast
-      → q .«record_count» * q .geometry .«record_size» ≤ length (s .output) → Complete q p (s .records) (s .output) r outputLast
+  pub complete : (p : BTreeV2Plan) → r .written ≡ Planned p → Holds q p (partOf s) (s .place) headerLast imageLast
+      → q .«record_count» * q .geometry .«record_size» ≤ length (s .output) → Complete q p s r outputLast

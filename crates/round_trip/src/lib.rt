@@ -36,26 +36,27 @@ fn collect_parsed(file: &[u8], parsed: HeaderAnswer, output: &mut [u8]) -> Colle
     }
 }
 
-// Writes a tree, reads the header at a place of a file, and collects the tree of that header.
+// Writes a tree, reads the header at a place of the part of a file from a base on, and collects the tree of that header.
 pub fn round_trip(
     request: Request,
     records: &[u8],
     header: &mut [u8],
     image: &mut [u8],
     file: &[u8],
+    base: u64,
     place: u64,
     output: &mut [u8],
 ) -> RoundTrip
     ensures { λ r. ⌜
         Answered request
-        (lent (now (records .entry)) (now (header .entry)) (now (image .entry)) (now (file .entry)) place (now (output .entry)))
+        (lent (now (records .entry)) (now (header .entry)) (now (image .entry)) (now (file .entry)) base place (now (output .entry)))
         r (now (header .exit)) (now (image .exit)) (now (output .exit))
         ⌝ }
 {
     let written = btree_v2_write::write(request, records, header, image);
     let geometry = request.geometry;
     let offset_size = geometry.offset_size;
-    let parsed = BTreeV2Header::parse(file, place, offset_size, request.length_size);
+    let parsed = BTreeV2Header::parse(file, base, place, offset_size, request.length_size);
     let collected = collect_parsed(file, parsed, output);
     RoundTrip {
         written,

@@ -8,10 +8,10 @@ use Rattle.replay.proofs.find_replay.stored.Tie as tie
 
 abbrev Inv-loop : tie.InvT-loop
 Inv-loop list bytes tally₀ row₀ tally row =
-    (row ≤ 72) × (tally .agreed + tally .differed ≡ row) × (971 ≡ length bytes) × (1368 ≡ length list)
+    (row ≤ 91) × (tally .agreed + tally .differed ≡ row) × (1102 ≡ length bytes) × (1820 ≡ length list)
 
 abbrev μ-loop : tie.MeasureT-loop
-μ-loop list bytes tally₀ row₀ tally row = 72 - row
+μ-loop list bytes tally₀ row₀ tally row = 91 - row
 
 pub stored-spec : {M : Type 1} → statement M
 stored-spec =

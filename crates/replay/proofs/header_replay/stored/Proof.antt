@@ -8,10 +8,10 @@ use Rattle.replay.proofs.header_replay.stored.Tie as tie
 
 abbrev Inv-loop : tie.InvT-loop
 Inv-loop list bytes tally₀ at₀ row₀ tally at row =
-    (row ≤ 42) × (tally .agreed + tally .differed ≡ row) × (at ≤ 1175) × (504 ≡ length list) × (1175 ≡ length bytes)
+    (row ≤ 62) × (tally .agreed + tally .differed ≡ row) × (at ≤ 2032) × (868 ≡ length list) × (2032 ≡ length bytes)
 
 abbrev μ-loop : tie.MeasureT-loop
-μ-loop list bytes tally₀ at₀ row₀ tally at row = 42 - row
+μ-loop list bytes tally₀ at₀ row₀ tally at row = 62 - row
 
 pub stored-spec : {M : Type 1} → statement M
 stored-spec =
