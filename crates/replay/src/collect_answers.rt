@@ -1,7 +1,7 @@
 // Collecting: rows of file length, tree type, node size, record size, depth, root address, root
 // records, records in all, base, offset size, output length, and the seven numbers of the answer.
-// Every byte of the output is 238 before the call. COLLECT_BYTES holds for each row the file and then
-// the output as the call leaves it.
+// Every byte of the output is 238 before the call. COLLECT_BYTES holds for each row the file and
+// then the output as the call leaves it.
 // The program stored_answers of rust/differential prints the list: its model gives the answers, and hdf5-pure must give the same
 // wherever it has an answer. rust/differential/stored/collecting.txt is what it printed.
 pub(crate) const COLLECT_ROWS: [u64; 846] = [

@@ -1,7 +1,7 @@
 // Finds: rows of the place in FIND_BYTES where the file begins, file length, tree type, node size,
-// record size, depth, root address, root records, records in all, base, offset size, start and width
-// of the key, key sought, and the six numbers of the answer. FIND_BYTES holds the files end to end;
-// where a row's length is less than a file has, the file ends early.
+// record size, depth, root address, root records, records in all, base, offset size, start and
+// width of the key, key sought, and the six numbers of the answer. FIND_BYTES holds the files end
+// to end; where a row's length is less than a file has, the file ends early.
 // The program stored_answers of rust/differential prints the list: its model gives the answers, and hdf5-pure must give the same
 // wherever it has an answer. rust/differential/stored/finding.txt is what it printed.
 pub(crate) const FIND_ROWS: [u64; 1820] = [

@@ -1,5 +1,5 @@
-// Headers read: rows of file length, base, offset, offset size, length size, and the nine numbers of
-// the answer. HEADER_BYTES holds the files end to end.
+// Headers read: rows of file length, base, offset, offset size, length size, and the nine numbers
+// of the answer. HEADER_BYTES holds the files end to end.
 // The program stored_answers of rust/differential prints the list: its model gives the answers, and hdf5-pure must give the same
 // wherever it has an answer. rust/differential/stored/headers.txt is what it printed.
 pub(crate) const HEADER_ROWS: [u64; 868] = [

@@ -1,6 +1,6 @@
-// Looks at a leaf: rows of file length, base, address, count, record size, index, output length, and
-// the three numbers of the answer. Every byte of the output is 238 before the call. LOOK_BYTES holds
-// for each row the file and then the output as the call leaves it.
+// Looks at a leaf: rows of file length, base, address, count, record size, index, output length,
+// and the three numbers of the answer. Every byte of the output is 238 before the call. LOOK_BYTES
+// holds for each row the file and then the output as the call leaves it.
 // The program stored_answers of rust/differential prints the list: its model gives the answers, and hdf5-pure must give the same
 // wherever it has an answer. rust/differential/stored/looks.txt is what it printed.
 pub(crate) const LOOK_ROWS: [u64; 350] = [

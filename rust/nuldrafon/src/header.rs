@@ -115,7 +115,8 @@ impl Header {
     }
 
     /// Reads the header at `offset` of the part of the file from `base` on: that of a file with a
-    /// block of so many bytes in front. The header carries the base to the calls that read its tree.
+    /// block of so many bytes in front. The header carries the base to the calls that read its
+    /// tree.
     ///
     /// Refused by [`Refusal::BaseBeyondFile`], then as [`parse`](Self::parse) is of this part.
     ///
@@ -262,8 +263,8 @@ impl Header {
     /// [`collect`](Self::collect) into an output as long as the part of the file from the header's
     /// base on, its records and counts or its refusal and counts. That is room enough where every
     /// record has a place of its own in the file. Where a file has nodes that several others point
-    /// to, its tree can have more records: then [`Refusal::OutputTooShort`] tells the length of that
-    /// part, and `collect` can be lent a longer output.
+    /// to, its tree can have more records: then [`Refusal::OutputTooShort`] tells the length of
+    /// that part, and `collect` can be lent a longer output.
     ///
     /// The header's record count is not relied on. Room is taken for as many records as it says,
     /// but for no more bytes than that part has; where the tree turns out to have more, the room is

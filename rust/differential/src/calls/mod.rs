@@ -16,7 +16,7 @@ pub use case::{By, Case, Fault, ShownBy};
 
 /// A call, and what its suite is made of.
 pub struct Call {
-    /// The C function's name behind `btree_v2_`; that of a call that takes a base ends in `_at`, too.
+    /// The C function's name behind `btree_v2_`, without the `_at` of one that takes a base.
     pub name: &'static str,
     /// The numbers of the refusals that the call can give; the suite has to meet each.
     pub refusals: &'static [u64],

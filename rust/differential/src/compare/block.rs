@@ -25,31 +25,23 @@ fn any(random: &mut Random) -> Vec<u8> {
     block
 }
 
-/// Every base from 0 to one beyond a file of this length, and huge ones: some come to a base of the
-/// file where they are cut to 32 bits, or where a place in the file is added to them modulo 2^64.
+/// Every base from 0 to one beyond a file of this length, and huge ones.
 pub fn every(length: usize) -> impl Iterator<Item = u64> {
     let length = length as u64;
-    (0..=length + 1).chain(huge(length))
+    let more = [1 << 32, 1 << 63, u64::MAX - 1];
+    (0..=length + 1).chain(huge(length)).chain(more)
 }
 
-/// Bases around a file's end, others in the file, and huge ones.
+/// Bases in a file, around its end, and huge ones.
 pub fn some(length: usize, random: &mut Random) -> impl Iterator<Item = u64> {
     let length = length as u64;
-    let any = random.up_to(length);
-    [0, any, length.saturating_sub(1), length, length + 1]
-        .into_iter()
-        .chain(huge(any))
+    let any = [(); 3].map(|()| random.up_to(length));
+    let limits = [0, length.saturating_sub(1), length, length + 1];
+    any.into_iter().chain(limits).chain(huge(any[0]))
 }
 
-/// Huge bases, some made of one in a file.
-fn huge(own: u64) -> [u64; 6] {
-    let last = u64::MAX;
-    [
-        1 << 32,
-        (1 << 32) + own,
-        1 << 63,
-        last - own,
-        last - 1,
-        last,
-    ]
+/// Huge bases: those that come to one in the file where they are cut to 32 bits, or where a place
+/// in the file is added to them modulo 2^64, and the largest.
+fn huge(own: u64) -> [u64; 3] {
+    [(1 << 32) + own, u64::MAX - own, u64::MAX]
 }

@@ -21,8 +21,8 @@ struct Node {
 pub type Records = fn(&mut Random, usize) -> Vec<u8>;
 
 /// A file, and a tree in it: one to three nodes of each level, each pointer to one of those a level
-/// below, and now and then a pointer to another place or a wrong count. Some files are cut, and some
-/// have a block in front.
+/// below, and now and then a pointer to another place or a wrong count. Some files are cut, and
+/// some have a block in front.
 pub fn grafted(records: Records, random: &mut Random) -> (Vec<u8>, Tree) {
     let node_size = NODE_SIZES[random.up_to(4) as usize];
     let record_size = 1 + random.up_to(6) as u16;

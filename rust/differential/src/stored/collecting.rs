@@ -18,8 +18,8 @@ pub const LIST: List = List {
 const LAYOUT: &str = "\
 // Collecting: rows of file length, tree type, node size, record size, depth, root address, root
 // records, records in all, base, offset size, output length, and the seven numbers of the answer.
-// Every byte of the output is 238 before the call. COLLECT_BYTES holds for each row the file and then
-// the output as the call leaves it.
+// Every byte of the output is 238 before the call. COLLECT_BYTES holds for each row the file and
+// then the output as the call leaves it.
 ";
 
 /// A collecting.

@@ -17,9 +17,9 @@ pub const LIST: List = List {
 
 const LAYOUT: &str = "\
 // Finds: rows of the place in FIND_BYTES where the file begins, file length, tree type, node size,
-// record size, depth, root address, root records, records in all, base, offset size, start and width
-// of the key, key sought, and the six numbers of the answer. FIND_BYTES holds the files end to end;
-// where a row's length is less than a file has, the file ends early.
+// record size, depth, root address, root records, records in all, base, offset size, start and
+// width of the key, key sought, and the six numbers of the answer. FIND_BYTES holds the files end
+// to end; where a row's length is less than a file has, the file ends early.
 ";
 
 /// A find in one of the files, or in the front of it.

@@ -16,8 +16,8 @@ pub const LIST: List = List {
 };
 
 const LAYOUT: &str = "\
-// Headers read: rows of file length, base, offset, offset size, length size, and the nine numbers of
-// the answer. HEADER_BYTES holds the files end to end.
+// Headers read: rows of file length, base, offset, offset size, length size, and the nine numbers
+// of the answer. HEADER_BYTES holds the files end to end.
 ";
 
 /// A reading.

@@ -17,9 +17,9 @@ pub const LIST: List = List {
 };
 
 const LAYOUT: &str = "\
-// Looks at a leaf: rows of file length, base, address, count, record size, index, output length, and
-// the three numbers of the answer. Every byte of the output is 238 before the call. LOOK_BYTES holds
-// for each row the file and then the output as the call leaves it.
+// Looks at a leaf: rows of file length, base, address, count, record size, index, output length,
+// and the three numbers of the answer. Every byte of the output is 238 before the call. LOOK_BYTES
+// holds for each row the file and then the output as the call leaves it.
 ";
 
 /// A look.

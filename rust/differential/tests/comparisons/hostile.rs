@@ -193,37 +193,27 @@ fn deepest_header() {
     assert_eq!(found, [[16, u16::MAX.into(), 0, 0, 0, 0]; 2]);
 }
 
-/// Bases at the limits, in a file that would keep a reader busy: all but 0 and the file's length are
-/// refused at once, or find no root.
+/// Bases at the limits, in a file that would keep a reader busy: no node is read.
 #[test]
 fn bases_at_the_limits() {
     let tower = tower(|_| MOST);
     let length = tower.file.len() as u64;
-    for base in [
-        1,
-        length - 1,
-        length,
-        length + 1,
-        1 << 32,
-        1 << 63,
-        u64::MAX,
-    ] {
+    let early = [(1, 2), (length - 1, 1), (length, 1)];
+    let beyond = [length + 1, 1 << 32, 1 << 63, u64::MAX].map(|base| (base, 18));
+    for (base, number) in early.into_iter().chain(beyond) {
+        let name = &format!("base {base}");
         let tree = Tree {
             base,
             ..header(tower.address, tower.records, LEVEL_LIMIT)
         };
-        let name = &format!("base {base}");
-        let answer = collect(name, &tower.file, &tree, 1 << 20);
-        let number = match base {
-            1 => 2,
-            _ if base <= length => 1,
-            _ => 18,
-        };
-        assert_eq!([answer[0], answer[3]], [number, 0], "{name}");
+        let collecting = Collecting::of(&tower.file, &tree, 100, 0);
+        let (answer, _) = soon(name, || collecting.rattle(&mut collecting.lend()));
+        assert_eq!([answer[0], answer[5]], [number, 0], "{name}");
         for found in find(name, &tower.file, &tree) {
             assert_eq!([found[0], found[3]], [number, 0], "{name}");
         }
     }
+    say("hostile file, bases at the limits: refused before a node is read");
 }
 
 /// What the crate makes room for ends with the length of the part behind the block, whatever the

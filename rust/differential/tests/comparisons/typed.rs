@@ -128,7 +128,10 @@ fn reads(file: &[u8], sample: Option<Header>, random: &mut Random) {
     let key = Field::new(any(random), any(random));
     let found = header.find(file, key, any(random));
     let _ = found.map_err(told_with_counts);
+    looks(file, &header, random);
+}
 
+fn looks(file: &[u8], header: &Header, random: &mut Random) {
     let [count, record_size] = [(); 2].map(|()| any(random) as u16);
     let address = [any(random), header.root_address][random.up_to(1) as usize];
     let base = any_base(file, random);

@@ -129,8 +129,8 @@ pub fn at_every_base(to: &mut Comparison, random: &mut Random) -> Held {
     })
 }
 
-/// Trees behind blocks, at any geometry: whole, into an output of any length, from other bases, cut,
-/// and damaged.
+/// Trees behind blocks, at any geometry: whole, into an output of any length, from other bases,
+/// cut, and damaged.
 pub fn behind_blocks(to: &mut Comparison, random: &mut Random) -> Held {
     for_some_behind_blocks(to, random, |to, sample, random| {
         to.hold_whole("behind blocks", sample)?;
