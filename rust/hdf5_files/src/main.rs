@@ -222,7 +222,7 @@ impl Real {
         let block = ..self.list.sizes.block;
         for path in listed(grown.path())? {
             let changed = Real::read(&path)?;
-            let stays = changed.bytes[block.clone()] == self.bytes[block.clone()];
+            let stays = changed.bytes[block] == self.bytes[block];
             same("the block stays", stays, true)?;
             finds.add(changed.finds);
         }
