@@ -19,12 +19,17 @@ enum {
     AT_KEY_WIDTH = 48,
     AT_KEY = 56,
     AT_EXCESS = 64, /* 4 bytes: what a figure has above its range, where it is given as 64 bits */
-    AT_FILE = 68,
+    AT_BASE = 68,   /* 8 bytes, of which the flags say how the base is made */
+    AT_FILE = 76,
     MOST_OUTPUT = 4096,
 };
 
 /* The flags: checksums are set right first; trees are read by the header that was read; the lent
  * buffers end, and do not begin, at a page that cannot be touched. */
 enum { MENDED = 1, BY_HEADER = 2, AT_THE_END = 4 };
+
+/* Two more, for the base: about the file's end, or the largest; the number given; else that number
+ * modulo the file's length + 1. */
+enum { BASE_KIND = 24, BASE_AT_AN_END = 16, BASE_AS_GIVEN = 24 };
 
 #endif

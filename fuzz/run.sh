@@ -27,7 +27,7 @@ ids=()
 for ((i = 0; i < processes; i++)); do
     seed=$((RANDOM * 32768 + RANDOM + 1))
     echo "fuzzing from seed $seed for $seconds seconds"
-    "$out/readers" -seed=$seed -max_total_time="$seconds" -max_len=4164 -timeout=20 \
+    "$out/readers" -seed=$seed -max_total_time="$seconds" -max_len=4172 -timeout=20 \
         -use_value_profile=1 -artifact_prefix="$out/" "$out/corpus" >"$out/$i.log" 2>&1 &
     ids+=($!)
 done

@@ -1,4 +1,5 @@
-/* A second reading of headers and trees in plain C, test by test as document 01 lists them. */
+/* A second reading of headers and trees in plain C, test by test as documents 01 and 02 list
+ * them. */
 #include "shadow.h"
 
 #include <string.h>
@@ -17,6 +18,14 @@ static bool refuse(uint64_t *answer, uint64_t cause, uint64_t first, uint64_t se
     answer[1] = first;
     answer[2] = second;
     return false;
+}
+
+/* Goes on with the part from the base on; refusal 18 where the base is beyond the file. */
+static bool from_base(struct source *s, uint64_t *answer) {
+    if (s->base > s->length) return refuse(answer, 18, 0, 0);
+    s->file += s->base;
+    s->length -= s->base;
+    return true;
 }
 
 static uint64_t held_sum(uint64_t a, uint64_t b) { return a > UINT64_MAX - b ? UINT64_MAX : a + b; }
@@ -41,6 +50,7 @@ static bool summed(struct source s, size_t from, size_t end, uint64_t *answer) {
 
 /* The header's tests in their order; then its figures. */
 static bool header(struct source s, uint64_t offset, uint8_t ow, uint8_t lw, uint64_t *answer) {
+    if (!from_base(&s, answer)) return false;
     if (!there(offset, 4, s.length, answer)) return false;
     const uint8_t *p = s.file + offset;
     if (memcmp(p, "BTHD", 4) != 0) return refuse(answer, 2, 0, 0);
@@ -54,15 +64,16 @@ static bool header(struct source s, uint64_t offset, uint8_t ow, uint8_t lw, uin
     if (!there(offset, end, s.length, answer)) return false;
     if (!there(offset, end + 4, s.length, answer)) return false;
     if (!summed(s, offset, offset + end, answer)) return false;
-    uint64_t figures[8] = {0, p[5], number(p + 6, 4), number(p + 10, 2), number(p + 12, 2),
-                           number(p + 16, ow), number(p + 16 + ow, 2), number(p + 18 + ow, lw)};
+    uint64_t figures[9] = {0, p[5], number(p + 6, 4), number(p + 10, 2), number(p + 12, 2),
+                           number(p + 16, ow), number(p + 16 + ow, 2), number(p + 18 + ow, lw),
+                           s.base};
     memcpy(answer, figures, sizeof figures);
     return true;
 }
 
 void shadow_parse(struct source source, uint64_t offset, uint8_t offset_size, uint8_t length_size,
-                  uint64_t answer[8]) {
-    memset(answer, 0, 8 * sizeof *answer);
+                  uint64_t answer[9]) {
+    memset(answer, 0, 9 * sizeof *answer);
     header(source, offset, offset_size, length_size, answer);
 }
 
@@ -209,7 +220,7 @@ void shadow_collect(struct source source, struct tree tree, uint8_t *output, siz
     struct walk w = {.s = source, .t = tree, .output = output, .output_length = output_length,
                      .answer = answer};
     memset(answer, 0, 7 * sizeof *answer);
-    if (is_empty(&tree)) return;
+    if (!from_base(&w.s, answer) || is_empty(&tree)) return;
     if (root_passes(&w)) {
         widths(&w);
         node(&w, tree.depth, tree.root_address, tree.root_records);
@@ -221,6 +232,7 @@ void shadow_collect(struct source source, struct tree tree, uint8_t *output, siz
 /* The tests of the look in their order; then the record. */
 static bool record(struct walk *w, uint64_t index, uint8_t *output, size_t output_length) {
     size_t size = w->t.record_size;
+    if (!from_base(&w->s, w->answer)) return false;
     if (size == 0) return refuse(w->answer, 8, 0, 0);
     if (!leaf_passes(w, w->t.root_address, w->t.root_records)) return false;
     if (index >= w->t.root_records) return true;
@@ -272,6 +284,7 @@ static bool descend(struct walk *w, const struct sought *sought, uint64_t found[
 /* The tests of a find in their order; then the descent. */
 static bool find(struct walk *w, const struct sought *sought) {
     uint64_t found[2] = {0, 0};
+    if (!from_base(&w->s, w->answer)) return false;
     if (is_empty(&w->t)) return true;
     if (!root_passes(w)) return false;
     if (!has_key(w->t.record_size, sought)) return refuse(w->answer, 17, 0, 0);
@@ -281,9 +294,8 @@ static bool find(struct walk *w, const struct sought *sought) {
     return true;
 }
 
-void shadow_find(struct source source, const uint64_t figures[7], uint8_t offset_size,
-                 struct sought sought, uint64_t answer[6]) {
-    struct walk w = {.s = source, .t = tree_of(figures, offset_size), .answer = answer};
+void shadow_find(struct source source, struct tree tree, struct sought sought, uint64_t answer[6]) {
+    struct walk w = {.s = source, .t = tree, .answer = answer};
     memset(answer, 0, 6 * sizeof *answer);
     find(&w, &sought);
 }

@@ -6,10 +6,12 @@
 #include <stddef.h>
 #include <stdint.h>
 
-/* A file; `mend` asks that a checksum that differs be set right in it, and is then no refusal. */
+/* A file and the base from which on it is read; `mend` asks that a checksum that differs be set
+ * right in it, and is then no refusal. */
 struct source {
     uint8_t *file;
     size_t length;
+    uint64_t base;
     bool mend;
 };
 
@@ -32,15 +34,14 @@ uint64_t number(const uint8_t *bytes, size_t width);
 /* The tree of a header's seven figures, each modulo the range of its field. */
 struct tree tree_of(const uint64_t figures[7], uint8_t offset_size);
 
-/* The answers of btree_v2_parse, of btree_v2_collect, of btree_v2_leaf_record for the root of a tree
- * as a leaf, and of btree_v2_find. */
+/* The answers of btree_v2_parse_at, of btree_v2_collect_at, of btree_v2_leaf_record_at for the root
+ * of a tree as a leaf, and of btree_v2_find_at. */
 void shadow_parse(struct source source, uint64_t offset, uint8_t offset_size, uint8_t length_size,
-                  uint64_t answer[8]);
+                  uint64_t answer[9]);
 void shadow_collect(struct source source, struct tree tree, uint8_t *output, size_t output_length,
                     uint64_t answer[7]);
 void shadow_leaf_record(struct source source, struct tree tree, uint64_t index, uint8_t *output,
                         size_t output_length, uint64_t answer[3]);
-void shadow_find(struct source source, const uint64_t figures[7], uint8_t offset_size,
-                 struct sought sought, uint64_t answer[6]);
+void shadow_find(struct source source, struct tree tree, struct sought sought, uint64_t answer[6]);
 
 #endif

@@ -9,6 +9,7 @@
 
 import ctypes
 import os
+import random
 import struct
 import subprocess
 import sys
@@ -44,6 +45,18 @@ LONG_FILES = [
     ("links", 100_000, 4, 4, ""),
     ("attributes", 65_000, 8, 8, ""),
     ("chunks", 100_000, 4, 4, ""),
+]
+
+# Files behind a block of so many bytes.
+BEHIND_A_BLOCK = [
+    ("links", 10, 4, 4, "", 512),
+    ("links", 1_000, 8, 8, "thinned", 1_024),
+    ("links", 10_000, 8, 4, "", 4_096),
+    ("attributes", 10, 8, 8, "", 4_096),
+    ("attributes", 300, 4, 8, "thinned", 512),
+    ("chunks", 10, 8, 8, "emptied", 1_024),
+    ("chunks", 10, 4, 4, "", 4_096),
+    ("chunks", 1_000, 8, 8, "thinned", 512),
 ]
 
 # Two names of one hash, the one that comes later by name first.
@@ -273,11 +286,13 @@ def due(found, wanted, what):
 
 def make(folder):
     """Makes every file and its list."""
-    for kind, entries, offsets, lengths, then in FILES + (LONG_FILES if LONG else []):
+    alone = [(*file, 0) for file in FILES + (LONG_FILES if LONG else [])]
+    for kind, entries, offsets, lengths, then, block in alone + BEHIND_A_BLOCK:
         named = f"{kind}-{entries}-{offsets}-{lengths}" + (then and f"-{then}")
-        path = folder / f"{named}.h5"
+        path = folder / f"{named}{f'-behind-{block}' if block else ''}.h5"
         creation = h5p.create(h5p.FILE_CREATE)
         creation.set_sizes(offsets, lengths)
+        creation.set_userblock(block)
         access = h5p.create(h5p.FILE_ACCESS)
         access.set_libver_bounds(h5f.LIBVER_LATEST, h5f.LIBVER_LATEST)
         file = h5f.create(bytes(path), h5f.ACC_EXCL, creation, access)
@@ -287,6 +302,7 @@ def make(folder):
         if then == "emptied":
             KINDS[kind].thin(file, kept=0)
         file.close()
+        fill(path, block)
         if then == "unread":
             write_list(path, listed(enumerate(map(name, numbers(entries)))))
         else:
@@ -295,10 +311,17 @@ def make(folder):
     print(f"HDF5 {h5py.version.hdf5_version}, h5py {h5py.version.version}")
 
 
+def fill(path, block):
+    """Fills the block before the HDF5 part with noise; the library leaves it to others."""
+    with open(path, "r+b") as file:
+        file.write(random.Random(block).randbytes(block))
+
+
 def write_list(path, lines):
-    """Writes the list of a file: its kind and sizes, and what is in it."""
+    """Writes the list of a file: its kind and sizes, the block's too, and what is in it."""
     kind, _, offsets, lengths = path.name.split(".")[0].split("-")[:4]
-    first = f"{kind}\t{offsets}\t{lengths}"
+    with h5py.File(path, "r") as file:
+        first = f"{kind}\t{offsets}\t{lengths}\t{file.userblock_size}"
     path.with_suffix(".txt").write_text("\n".join([first, *lines]) + "\n")
 
 

@@ -62,6 +62,13 @@ pub fn finds() -> impl Iterator<Item = Case> {
         .flat_map(of)
 }
 
+/// The trees that are read behind a block.
+pub fn behind_a_block() -> impl Iterator<Item = Case> {
+    [(SMALL, &FEW[1..2]), (USUAL, &FEW[..3]), (LARGE, &FEW[..2])]
+        .into_iter()
+        .flat_map(of)
+}
+
 fn of((geometry, counts): (Geometry, &'static [u64])) -> impl Iterator<Item = Case> {
     counts.iter().map(move |&count| Case::new(geometry, count))
 }

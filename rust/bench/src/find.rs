@@ -12,7 +12,7 @@ use crate::plain;
 use crate::timing::{Contender, Section};
 
 /// The number at the front of a record, whole or as few bytes of it as hold every key.
-const WHOLE: Field = Field::new(0, 8);
+pub const WHOLE: Field = Field::new(0, 8);
 const SHORT: Field = Field::new(0, 3);
 
 /// The keys that are sought, one after another and from the first again.
@@ -38,16 +38,16 @@ pub fn run() {
 }
 
 /// A file with a tree whose records ascend by their keys, and some of the keys in any order.
-struct Sorted {
-    file: Vec<u8>,
+pub struct Sorted {
+    pub file: Vec<u8>,
     header: Header,
-    tree: Tree,
-    keys: Vec<u64>,
+    pub tree: Tree,
+    pub keys: Vec<u64>,
 }
 
 impl Sorted {
     /// Every third number is a key.
-    fn new(case: &Case) -> Sorted {
+    pub fn new(case: &Case) -> Sorted {
         let size = usize::from(case.geometry.record_size);
         let mut random = Random::new(1);
         let mut records = random.bytes(case.record_count as usize * size);

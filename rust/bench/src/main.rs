@@ -1,6 +1,7 @@
 //! Times the Rattle libraries against the Rust and plain C, in one run on the same inputs, and tells
 //! what each call takes beside the buffers that it is lent. `bench NAME` runs one part alone.
 
+mod base;
 mod cases;
 mod checksum;
 mod collect;
@@ -18,12 +19,13 @@ mod write;
 static HEAP: memory::Counted = memory::Counted;
 
 /// The parts; the header reader's takes its headers from the collector's files.
-const PARTS: [(&str, fn()); 6] = [
+const PARTS: [(&str, fn()); 7] = [
     ("checksum", checksum::run),
     ("plan", plan::run),
     ("write", write::run),
     ("read", || header::run(&collect::run())),
     ("find", find::run),
+    ("base", base::run),
     ("types", typed::run),
 ];
 

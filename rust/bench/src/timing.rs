@@ -12,6 +12,9 @@ const LEAST_ROUNDS: u128 = 5;
 /// Rounds end after this long, if there were enough of them.
 const BUDGET: Duration = Duration::from_secs(3);
 
+/// A contender that is held beside the first one in the stack it takes, too.
+pub const PART: &str = "the part";
+
 extern "C" {
     fn bench_c_nanoseconds() -> u64;
 }
@@ -130,6 +133,12 @@ impl<'a> Section<'a> {
             columns.push((name, shown(first.over(one))));
         }
         columns.push(("stack".to_string(), grouped(all[0].stack as f64)));
+        for (one, taken) in contenders.iter().zip(&all) {
+            if one.name == PART {
+                let name = format!("stack of {PART}");
+                columns.push((name, grouped(taken.stack as f64)));
+            }
+        }
         columns.push(("new pages".to_string(), all[0].pages.to_string()));
         for (one, taken) in contenders.iter().zip(&all) {
             if ["Rattle", "Rust"].contains(&one.name) {

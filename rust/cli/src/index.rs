@@ -35,19 +35,20 @@ pub fn write(records: &[u8]) -> Result<(Vec<u8>, Plan), Box<dyn Error>> {
     Ok((file, plan))
 }
 
-/// Reads the header and then all records of the file.
-pub fn read(file: &[u8]) -> Result<(Header, Collected), Box<dyn Error>> {
-    let header = header(file)?;
+/// Reads the header and then all records of the file, which begins at `base`.
+pub fn read(file: &[u8], base: u64) -> Result<(Header, Collected), Box<dyn Error>> {
+    let header = header(file, base)?;
     let collected = header.collect_to_vec(file)?;
     Ok((header, collected))
 }
 
 /// Finds the record of the bay with this name, by the hash of the name.
-pub fn find(file: &[u8], name: &str) -> Result<Found, Box<dyn Error>> {
+pub fn find(file: &[u8], base: u64, name: &str) -> Result<Found, Box<dyn Error>> {
     let hash = jenkins_lookup3(name.as_bytes());
-    Ok(header(file)?.find(file, HASH, hash.into())?)
+    Ok(header(file, base)?.find(file, HASH, hash.into())?)
 }
 
-fn header(file: &[u8]) -> Result<Header, Refusal> {
-    Header::parse(file, HEADER_AT as u64, GEOMETRY.offset_size, LENGTH_SIZE)
+fn header(file: &[u8], base: u64) -> Result<Header, Refusal> {
+    let offset_size = GEOMETRY.offset_size;
+    Header::parse_at(file, base, HEADER_AT as u64, offset_size, LENGTH_SIZE)
 }

@@ -1,5 +1,5 @@
-//! Writes the index of an example site into a file, reads it back, finds one bay in it, and shows
-//! what damaged copies of the file get.
+//! Writes the index of an example site into a file, reads it back, finds one bay in it, does so again
+//! behind a block of site notes, and shows what damaged copies of the file get.
 
 mod index;
 mod site;
@@ -39,6 +39,7 @@ fn run() -> Result<(), Box<dyn Error>> {
     let file = write(&records)?;
     read(&file, &records)?;
     let place = find(&file, &bays)?;
+    behind_notes(&file, &records, place)?;
     damage(&file, place)
 }
 
@@ -62,7 +63,7 @@ fn write(records: &[u8]) -> Result<Vec<u8>, Box<dyn Error>> {
 
 /// Reads the index back and holds it to what was written.
 fn read(file: &[u8], records: &[u8]) -> Result<(), Box<dyn Error>> {
-    let (header, collected) = index::read(file)?;
+    let (header, collected) = index::read(file, 0)?;
     let counts = collected.counts;
     println!(
         "\nRead back: the file says that it has {} records; {} were read, from {} leaves and {}\n\
@@ -84,12 +85,12 @@ fn read(file: &[u8], records: &[u8]) -> Result<(), Box<dyn Error>> {
 fn find(file: &[u8], bays: &[Bay]) -> Result<usize, Box<dyn Error>> {
     let hit = bays.iter().find(|bay| bay.name == HIT);
     let record = hit.ok_or("no such bay")?.record();
-    let found = index::find(file, HIT)?;
+    let found = index::find(file, 0, HIT)?;
     let place = found.place.ok_or("the bay is not in the index")? as usize;
     if !file[place..].starts_with(&record) {
         return Err("the record found is not the bay's".into());
     }
-    if index::find(file, MISSING)?.place.is_some() {
+    if index::find(file, 0, MISSING)?.place.is_some() {
         return Err("a bay was found that the site does not have".into());
     }
     println!(
@@ -98,6 +99,26 @@ fn find(file: &[u8], bays: &[Bay]) -> Result<usize, Box<dyn Error>> {
         found.nodes,
     );
     Ok(place)
+}
+
+/// Puts site notes before the file; told how long they are, the reader has the same records and the
+/// same place of the bay, and not told it has none.
+fn behind_notes(file: &[u8], records: &[u8], place: usize) -> Result<(), Box<dyn Error>> {
+    let noted = [site::NOTES.as_bytes(), file].concat();
+    let base = site::NOTES.len() as u64;
+    let (_, collected) = index::read(&noted, base)?;
+    if collected.records != records {
+        return Err("the records behind the notes are not those written".into());
+    }
+    if index::find(&noted, base, HIT)?.place != Some(place as u64) {
+        return Err("the bay is not found behind the notes".into());
+    }
+    println!(
+        "\nBehind {base} bytes of site notes: the same {} records are read, and {HIT} is found at byte\n\
+         {place} behind the notes. Read as if the notes were not there:",
+        collected.counts.records,
+    );
+    refused("the file begins with notes", &noted)
 }
 
 /// Damages copies of the file, two of them in the record at `place`; each must be refused.
@@ -117,7 +138,7 @@ fn damage(file: &[u8], place: usize) -> Result<(), Box<dyn Error>> {
 
 /// Reads a damaged file and says why it is refused.
 fn refused(what: &str, file: &[u8]) -> Result<(), Box<dyn Error>> {
-    match index::read(file) {
+    match index::read(file, 0) {
         Ok(_) => Err(format!("accepted, although {what}").into()),
         Err(refusal) => {
             println!("- {what}: refused, {refusal}");

@@ -13,6 +13,9 @@ pub const AISLES: u32 = 40;
 pub const POSITIONS: u32 = 30;
 pub const LEVELS: u32 = 5;
 
+/// What an installer wrote down, before the file.
+pub const NOTES: &str = "Aisle 17: sensors renewed in May.\nRamp B is closed on Sundays.\n";
+
 pub struct Bay {
     pub name: String,
     hash: u32,

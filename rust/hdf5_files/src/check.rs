@@ -59,7 +59,7 @@ pub fn file(file: &[u8], sizes: Sizes, trees: &[Tree], entries: &Entries) -> Res
             for tree in pair {
                 let kind = tree.header.tree_type;
                 let own = all.iter().filter(|chunk| chunk.kind == kind);
-                chunks(file, sizes, tree, own.collect())?;
+                chunks(&file[sizes.block..], sizes, tree, own.collect())?;
                 finds.add(find_chunks(file, tree)?);
             }
             Ok(finds)
@@ -145,8 +145,9 @@ fn find_chunks(file: &[u8], tree: &Tree) -> Result<Finds, Fault> {
     })
 }
 
-/// The listed chunks, by scaled offsets; at each address stand the chunk's two numbers.
-fn chunks(file: &[u8], sizes: Sizes, tree: &Tree, mut due: Vec<&Chunk>) -> Result<(), Fault> {
+/// The listed chunks, by scaled offsets; at each address of the HDF5 part stand the chunk's two
+/// numbers.
+fn chunks(hdf5: &[u8], sizes: Sizes, tree: &Tree, mut due: Vec<&Chunk>) -> Result<(), Fault> {
     same("chunks", tree.rows().count(), due.len())?;
     due.sort_by(|a, b| a.scaled.cmp(&b.scaled));
     for (row, chunk) in tree.rows().zip(due) {
@@ -157,7 +158,7 @@ fn chunks(file: &[u8], sizes: Sizes, tree: &Tree, mut due: Vec<&Chunk>) -> Resul
         let address = number(address);
         same("address", address, chunk.address.unwrap_or(address))?;
         let value = chunk.value.to_le_bytes();
-        same("chunk", part(file, address, 8)?, &[value, value].concat())?;
+        same("chunk", part(hdf5, address, 8)?, &[value, value].concat())?;
         if tree.header.tree_type == 11 {
             let (size, mask) = stored.split_at(stored.len() - 4);
             let found = (number(size), number(mask));

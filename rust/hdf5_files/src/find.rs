@@ -31,6 +31,8 @@ impl Finds {
 /// A tree whose keys never fall, with the place of the first record of each key.
 pub struct Index<'a> {
     file: &'a [u8],
+    /// The part from the base on.
+    hdf5: &'a [u8],
     tree: &'a Tree,
     field: Field,
     first: BTreeMap<u64, u64>,
@@ -40,10 +42,11 @@ impl<'a> Index<'a> {
     /// The tree by the field at these bytes of its records.
     pub fn new(file: &'a [u8], tree: &'a Tree, key: Range<usize>) -> Result<Self, Fault> {
         let (mut first, mut last) = (BTreeMap::new(), 0);
+        let hdf5 = &file[tree.header.base as usize..];
         same("places", tree.places.len(), tree.rows().count())?;
         for (row, &place) in tree.rows().zip(&tree.places) {
             let key = number(&row[key.clone()]);
-            same("record at its place", part(file, place, row.len())?, row)?;
+            same("record at its place", part(hdf5, place, row.len())?, row)?;
             same("a key that does not fall", key >= last, true)?;
             first.entry(key).or_insert(place);
             last = key;
@@ -51,6 +54,7 @@ impl<'a> Index<'a> {
         let field = Field::new(key.start as u64, key.len() as u64);
         Ok(Self {
             file,
+            hdf5,
             tree,
             field,
             first,
@@ -70,7 +74,7 @@ impl<'a> Index<'a> {
         same("nodes read in a find", found.nodes, levels)?;
         let due = self.first.get(&key).copied();
         same("place of a key", (key, found.place), (key, due))?;
-        let record = |place| part(self.file, place, self.tree.record_size());
+        let record = |place| part(self.hdf5, place, self.tree.record_size());
         found.place.map(record).transpose()
     }
 

@@ -68,7 +68,8 @@ pub fn graft(
     trees: &[Tree],
     node_size: u32,
 ) -> Result<(Vec<u8>, Vec<Written>), Fault> {
-    let mut grafted = file.to_vec();
+    let (block, hdf5) = file.split_at(sizes.block);
+    let mut grafted = hdf5.to_vec();
     let mut all = Vec::new();
     for tree in trees {
         let node_size = match node_size {
@@ -81,7 +82,7 @@ pub fn graft(
         all.push(written);
     }
     set_end(&mut grafted, sizes);
-    Ok((grafted, all))
+    Ok(([block, &grafted].concat(), all))
 }
 
 /// The file with one of its trees ours, and damaged.
@@ -92,7 +93,8 @@ pub fn damaged(
     damage: Damage,
     node_size: u32,
 ) -> Result<Vec<u8>, Fault> {
-    let mut grafted = file.to_vec();
+    let (block, hdf5) = file.split_at(sizes.block);
+    let mut grafted = hdf5.to_vec();
     let size = tree.record_size();
     let middle = tree.rows().count() / 2 * size;
     let mut records = tree.records.clone();
@@ -111,7 +113,7 @@ pub fn damaged(
     }
     put(&mut grafted, tree, &written);
     set_end(&mut grafted, sizes);
-    Ok(grafted)
+    Ok([block, &grafted].concat())
 }
 
 /// A byte of a record whose change the library must notice: of a hash, a heap id or an address.
@@ -131,8 +133,9 @@ pub fn equal_leaf(file: &[u8], sizes: Sizes, tree: &Tree) -> Result<Option<bool>
         return Ok(None);
     }
     let ours = write(tree, &tree.records, header.geometry.node_size, sizes, root)?.tree;
+    let hdf5 = &file[sizes.block..];
     Ok(Some(
-        file[tree.at..].starts_with(&ours.header) && file[root as usize..].starts_with(&ours.image),
+        hdf5[tree.at..].starts_with(&ours.header) && hdf5[root as usize..].starts_with(&ours.image),
     ))
 }
 
@@ -164,12 +167,13 @@ fn write(
     Ok(Written { node_size, tree })
 }
 
-/// Wipes the library's nodes, writes our header over the library's, and our nodes at the end.
-fn put(file: &mut Vec<u8>, tree: &Tree, written: &Written) {
+/// Wipes the library's nodes, writes our header over the library's, and our nodes at the end, all in
+/// the HDF5 part.
+fn put(hdf5: &mut Vec<u8>, tree: &Tree, written: &Written) {
     for at in &tree.nodes {
-        file[*at..*at + tree.header.geometry.node_size as usize].fill(WIPED);
+        hdf5[*at..*at + tree.header.geometry.node_size as usize].fill(WIPED);
     }
     let at = tree.at;
-    file[at..at + written.tree.header.len()].copy_from_slice(&written.tree.header);
-    file.extend_from_slice(&written.tree.image);
+    hdf5[at..at + written.tree.header.len()].copy_from_slice(&written.tree.header);
+    hdf5.extend_from_slice(&written.tree.image);
 }

@@ -34,12 +34,13 @@ impl List {
     pub fn read(text: &str) -> Result<Self, Fault> {
         let mut lines = text.lines();
         let first: Vec<&str> = lines.next().unwrap_or_default().split('\t').collect();
-        let [kind, offset, length] = first[..] else {
+        let [kind, offset, length, block] = first[..] else {
             return Err(format!("first line of a list: {first:?}"));
         };
         let sizes = Sizes {
             offset: parsed(offset)?,
             length: parsed(length)?,
+            block: parsed(block)?,
         };
         let entries = match kind {
             "links" => Entries::Links(lines.map(named).collect::<Result<_, _>>()?),

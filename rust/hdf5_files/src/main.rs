@@ -33,6 +33,39 @@ const GROWN_NODE_SIZES: [u32; 4] = [300, 512, 2_048, 65_536];
 /// The file in which lookups by name are timed.
 const TIMED: &str = "links-100000-8-8";
 
+/// What was done: files of the library's that were read, files with our trees that it read, files
+/// that it changed and ours read again, and damages that were noticed.
+#[derive(Default)]
+struct Done {
+    real: usize,
+    grafts: usize,
+    grown: usize,
+    damages: usize,
+}
+
+impl Done {
+    fn add(&mut self, other: &Done) {
+        self.real += other.real;
+        self.grafts += other.grafts;
+        self.grown += other.grown;
+        self.damages += other.damages;
+    }
+
+    fn print(&self, of: &str) -> Result<(), Fault> {
+        println!(
+            "{of}: {} of the library's read, {} with our trees read by the library, {} changed by \
+             it and read again, {} damages noticed",
+            self.real, self.grafts, self.grown, self.damages
+        );
+        // A run over no files would show nothing.
+        same(
+            "something done",
+            self.grafts * self.grown * self.damages > 0,
+            true,
+        )
+    }
+}
+
 /// A real file, read.
 struct Real {
     name: String,
@@ -57,33 +90,27 @@ fn run() -> Result<(), Fault> {
     let made = folder.inner("real")?;
     files_py("make", &[&made])?;
     println!(
-        "type  records  sizes  library: node size, depth, nodes   ours: node size/depth/nodes"
+        "type  records  sizes  block  library: node size, depth, nodes   \
+         ours: node size/depth/nodes"
     );
-    let (mut grafts, mut grown, mut damages) = (0, 0, 0);
+    let (mut done, mut behind) = (Done::default(), Done::default());
     let mut finds = Finds::default();
     for path in listed(made.path())? {
         let mut real = Real::read(&path)?;
-        let ours = folder.inner("ours")?;
-        finds.add(real.finds);
-        let written = real.graft_all(&ours, &mut finds)?;
-        files_py("look", &[&made, &ours])?;
-        grafts += written.len();
-        real.print(&written)?;
-        grown += real.grow(&folder, &mut finds)?;
-        real.time(&path, &made)?;
-        damages += real.notices(&folder, &made)?;
+        let of_this = real.hold(&folder, &made, &path, &mut finds)?;
+        done.add(&of_this);
+        if real.list.sizes.block > 0 {
+            behind.add(&of_this);
+        }
     }
-    println!(
-        "{grafts} files with our trees read by the library, {grown} changed by it and read again; \
-         {damages} damages noticed"
-    );
+    done.print("files")?;
+    behind.print("of these behind a block, where with base 0 no tree comes out")?;
     println!(
         "{} records found by their keys, {} of them those of another name with the same hash; {} \
          keys that are not there",
         finds.found, finds.shared, finds.absent
     );
-    // A run over no files would show nothing.
-    same("something done", grafts * grown * damages > 0, true)
+    Ok(())
 }
 
 /// The files of the folder that have a list, in order.
@@ -120,6 +147,29 @@ impl Real {
         };
         real.finds = real.check()?;
         Ok(real)
+    }
+
+    /// Everything that is done with the file.
+    fn hold(
+        &mut self,
+        folder: &Folder,
+        made: &Folder,
+        path: &Path,
+        finds: &mut Finds,
+    ) -> Result<Done, Fault> {
+        finds.add(self.finds);
+        let ours = folder.inner("ours")?;
+        let written = self.graft_all(&ours, finds)?;
+        files_py("look", &[made, &ours])?;
+        self.print(&written)?;
+        let grown = self.grow(folder, finds)?;
+        self.time(path, made)?;
+        Ok(Done {
+            real: 1,
+            grafts: written.len(),
+            grown,
+            damages: self.notices(folder, made)?,
+        })
     }
 
     fn check(&self) -> Result<Finds, Fault> {
@@ -169,8 +219,12 @@ impl Real {
             self.graft(&grown, node_size)?;
         }
         files_py("grow", &[&grown])?;
+        let block = ..self.list.sizes.block;
         for path in listed(grown.path())? {
-            finds.add(Real::read(&path)?.finds);
+            let changed = Real::read(&path)?;
+            let stays = changed.bytes[block] == self.bytes[block];
+            same("the block stays", stays, true)?;
+            finds.add(changed.finds);
         }
         Ok(GROWN_NODE_SIZES.len())
     }
@@ -197,10 +251,11 @@ impl Real {
                 .map(|(size, plan)| format!("{size}/{}/{}", plan.depth, plan.nodes))
                 .collect();
             println!(
-                "{:4} {:8} {:>6} {:5} {:2} {:6} {equal:5}  {}",
+                "{:4} {:8} {:>6} {:6} {:5} {:2} {:6} {equal:5}  {}",
                 head.tree_type,
                 head.total_records,
                 format!("{}/{}", sizes.offset, sizes.length),
+                sizes.block,
                 head.geometry.node_size,
                 head.depth,
                 tree.nodes.len(),
