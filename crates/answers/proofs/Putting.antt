@@ -1,12 +1,11 @@
 -- What stands in the caller's array, in the forms in which the functions' proofs have it.
 use mathlib.Core.Path.{_≡_, refl}
 use mathlib.Core.List.{List, [], _∷_, _++_}
-use Prim.Native.Nat.{ℕ, suc, _+_, _≤_}
-use native.Mathlib.Omega.{arith}
-use lib.ListN.{length, getD, length-append}
+use Prim.Native.Nat.{ℕ, suc, _+_}
+use lib.ListN.{length, length-append}
 use Rattle.refusal.specs.declared.Refusal.{Refusal}
-use Rattle.refusal.specs.Answer.{refused, refusalOf, verdictOf, cells}
-use Rattle.refusal.proofs.Answers.{length-cells, refused-is, code-more}
+use Rattle.refusal.specs.Answer.{refusalOf, verdictOf, cells}
+use Rattle.refusal.proofs.Answers.{length-cells, code-more}
 use Rattle.plan.specs.declared.BTreeV2Plan.{BTreeV2Plan}
 use Rattle.plan.specs.declared.PlanAnswer.{PlanAnswer}
 use Rattle.plan.specs.declared.PlanAnswer.the-variants as plan
@@ -37,7 +36,7 @@ pub plan-refused : {p : PlanAnswer} (cause : Refusal) {n x y : ℕ} → p ≡ pl
     → n ∷ x ∷ y ∷ 0 ∷ 0 ∷ [] ≡ cells 5 (planAnswerOf p)
 plan-refused cause e code = rw e (code-more cause 2 code)
 
--- The header's fields with the base, or its refusal; and the first eight of these numbers.
+-- The header's fields with the base, or its refusal.
 pub header-put : {p : HeaderAnswer} {h : BTreeV2Header} → p ≡ header.Parsed h
     → (0 ∷ headerFigures h) ++ (h .base ∷ []) ≡ cells 9 (headerAnswerOf p)
 unfolding cells
@@ -46,20 +45,6 @@ header-put e = rw e
 pub header-refused : {p : HeaderAnswer} (cause : Refusal) {n x y : ℕ} → p ≡ header.Refused cause → n ∷ x ∷ y ∷ [] ≡ cells 3 (refusalOf cause)
     → n ∷ x ∷ y ∷ 0 ∷ 0 ∷ 0 ∷ 0 ∷ 0 ∷ 0 ∷ [] ≡ cells 9 (headerAnswerOf p)
 header-refused cause e code = rw e (code-more cause 6 code)
-
-abbrev eight : List ℕ → List ℕ
-eight l = getD l 0 0 ∷ getD l 1 0 ∷ getD l 2 0 ∷ getD l 3 0 ∷ getD l 4 0 ∷ getD l 5 0 ∷ getD l 6 0 ∷ getD l 7 0 ∷ []
-
-pub eight-put : (p : HeaderAnswer) {all : List ℕ} → all ≡ cells 9 (headerAnswerOf p) → eight all ≡ cells 8 (headerAnswerOf p)
-unfolding cells
-eight-put (header.Parsed h) e = rw e
-eight-put (header.Refused r) e = let s = refused-is r in rw (e, s .2) (by (s .0) (s .1) (s .3))
-  where
-    by : (number : ℕ) (values : List ℕ) → length values ≤ 2 → eight (cells 9 (refused number values)) ≡ cells 8 (refused number values)
-    by number [] h = refl
-    by number (_ ∷ []) h = refl
-    by number (_ ∷ _ ∷ []) h = refl
-    by number (_ ∷ _ ∷ _ ∷ r) h = absurd (omega arith)
 
 -- The length of a record, or why it was not copied.
 pub record-put : {p : RecordAnswer} {k : ℕ} → p ≡ copied.Copied k → 0 ∷ k ∷ 0 ∷ [] ≡ cells 3 (recordAnswerOf p)

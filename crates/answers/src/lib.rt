@@ -44,7 +44,7 @@ pub fn put_plan(answer: &mut [u64; 5], planned: PlanAnswer)
 }
 
 // The header's fields, and behind them the base.
-pub fn put_header_at(answer: &mut [u64; 9], parsed: HeaderAnswer)
+pub fn put_header(answer: &mut [u64; 9], parsed: HeaderAnswer)
     ensures { λ _. ⌜ now (answer .exit) ≡ cells 9 (headerAnswerOf parsed) ⌝ }
 {
     match parsed {
@@ -67,24 +67,6 @@ pub fn put_header_at(answer: &mut [u64; 9], parsed: HeaderAnswer)
             *answer = [code.number, code.first, code.second, 0, 0, 0, 0, 0, 0];
         }
     }
-}
-
-// The header's fields without the base.
-pub fn put_header(answer: &mut [u64; 8], parsed: HeaderAnswer)
-    ensures { λ _. ⌜ now (answer .exit) ≡ cells 8 (headerAnswerOf parsed) ⌝ }
-{
-    let mut all = [0u64; 9];
-    put_header_at(&mut all, parsed);
-    *answer = [
-        all[0],
-        all[1],
-        all[2],
-        all[3],
-        all[4],
-        all[5],
-        all[6],
-        all[7],
-    ];
 }
 
 // The refusal's number and values, zeros where the run is accepted, and the counts of both.

@@ -2,8 +2,6 @@
 // number, 0 where the call is accepted, then the figures or the refusal's values, then zeros.
 
 ghost use mathlib.Core.Path.{_≡_};
-ghost use Prim.Native.Nat.{_≤_};
-ghost use lib.ListN.{length, getD};
 ghost use Rattle.refusal.specs.Answer.{cells};
 ghost use Rattle.node_info.specs.Table.{tabled};
 ghost use Rattle.plan.specs.Planned.{planAnswer};
@@ -101,22 +99,30 @@ pub extern "C" fn btree_v2_write(
     answers::put_plan(answer, written);
 }
 
-// The header at an offset of a file: type, node size, record size, depth, root's address and records, records in all.
-#[no_mangle]
-pub extern "C" fn btree_v2_parse(
-    file: &[u8],
-    offset: u64,
-    offset_size: u8,
-    length_size: u8,
-    answer: &mut [u64; 8],
-)
-    ensures { λ _. ⌜ now (answer .exit) ≡ cells 8 (parsed (now (file .entry)) offset «offset_size» «length_size») ⌝ }
+// The header that its figures tell, as btree_v2_parse_at gives them; a number above its field's range counts modulo that range.
+fn header_of(figures: &[u64; 8], offset_size: u8) -> BTreeV2Header
+    ensures { λ r. ⌜ r ≡ headerOf (now (figures .entry)) «offset_size» ⌝ }
 {
-    let parsed = BTreeV2Header::parse(file, 0, offset, offset_size, length_size);
-    answers::put_header(answer, parsed);
+    let geometry = Geometry {
+        node_size: (figures[1] % 0x1_0000_0000) as u32,
+        record_size: (figures[2] % 0x1_0000) as u16,
+        offset_size,
+    };
+    BTreeV2Header {
+        tree_type: (figures[0] % 0x100) as u8,
+        geometry,
+        depth: (figures[3] % 0x1_0000) as u16,
+        root_node_address: figures[4],
+        num_records_in_root: (figures[5] % 0x1_0000) as u16,
+        total_records: figures[6],
+        base: figures[7],
+    }
 }
 
-// The header at an offset of the part of a file from a base on: the same figures, and behind them the base.
+// The reading calls. Those that end in `_at` read the part of a file from a base on, and count every place in it; the others are these with
+// base 0.
+
+// The header at an offset: type, node size, record size, depth, root's address and records, records in all, base.
 #[no_mangle]
 pub extern "C" fn btree_v2_parse_at(
     file: &[u8],
@@ -129,11 +135,50 @@ pub extern "C" fn btree_v2_parse_at(
     ensures { λ _. ⌜ now (answer .exit) ≡ cells 9 (parsedAt (now (file .entry)) base offset «offset_size» «length_size») ⌝ }
 {
     let parsed = BTreeV2Header::parse(file, base, offset, offset_size, length_size);
-    answers::put_header_at(answer, parsed);
+    answers::put_header(answer, parsed);
+}
+
+#[no_mangle]
+pub extern "C" fn btree_v2_parse(
+    file: &[u8],
+    offset: u64,
+    offset_size: u8,
+    length_size: u8,
+    answer: &mut [u64; 8],
+)
+    ensures { λ _. ⌜ now (answer .exit) ≡ cells 8 (parsed (now (file .entry)) offset «offset_size» «length_size») ⌝ }
+{
+    let mut all = [0u64; 9];
+    btree_v2_parse_at(file, 0, offset, offset_size, length_size, &mut all);
+    *answer = [
+        all[0],
+        all[1],
+        all[2],
+        all[3],
+        all[4],
+        all[5],
+        all[6],
+        all[7],
+    ];
 }
 
 // The records of a header's tree put out. The answer has the refusal's number and two values, zeros where the call is accepted, and then,
 // refused or not, records put out, leaves, internal nodes, and records from internal nodes.
+#[no_mangle]
+pub extern "C" fn btree_v2_collect_at(
+    file: &[u8],
+    header: &[u64; 8],
+    offset_size: u8,
+    output: &mut [u8],
+    answer: &mut [u64; 7],
+)
+    ensures answered { λ _. ⌜ now (answer .exit) ≡ runCells (collectedAt (now (file .entry)) (headerOf (now (header .entry)) «offset_size») (now (output .entry))) ⌝ }
+    ensures outputLeft { λ _. ⌜ now (output .exit) ≡ runOutput (collectedAt (now (file .entry)) (headerOf (now (header .entry)) «offset_size») (now (output .entry))) ⌝ }
+{
+    let collected = collect::collect_btree_v2_records(file, header_of(header, offset_size), output);
+    answers::put_collected(answer, collected);
+}
+
 #[no_mangle]
 pub extern "C" fn btree_v2_collect(
     file: &[u8],
@@ -153,110 +198,21 @@ pub extern "C" fn btree_v2_collect(
     ensures outputLeft { λ _. ⌜ now (output .exit) ≡ runOutput (collected (now (file .entry))
         (given «tree_type» (sizes «node_size» «record_size» «offset_size») depth «root_address» «root_records» «total_records» 0) (now (output .entry))) ⌝ }
 {
-    let geometry = Geometry {
-        node_size,
-        record_size,
-        offset_size,
-    };
-    let header = BTreeV2Header {
-        tree_type,
-        geometry,
-        depth,
-        root_node_address: root_address,
-        num_records_in_root: root_records,
+    let header = [
+        tree_type as u64,
+        node_size as u64,
+        record_size as u64,
+        depth as u64,
+        root_address,
+        root_records as u64,
         total_records,
-        base: 0,
-    };
-    let collected = collect::collect_btree_v2_records(file, header, output);
-    answers::put_collected(answer, collected);
-}
-
-// The base of a header's figures: the eighth, 0 where there are seven.
-fn base_of(figures: &[u64]) -> u64
-    ensures { λ r. ⌜ r ≡ getD (now (figures .entry)) 7 0 ⌝ }
-{
-    if figures.len() < 8 {
-        return 0;
-    }
-    figures[7]
-}
-
-// The header that its figures tell, as btree_v2_parse or btree_v2_parse_at gives them; a number above its field's range counts modulo that range.
-fn header_of(figures: &[u64], offset_size: u8) -> BTreeV2Header
-    requires { ⌜ 7 ≤ length (now figures) ⌝ }
-    ensures { λ r. ⌜ r ≡ headerOf (now (figures .entry)) «offset_size» ⌝ }
-{
-    let geometry = Geometry {
-        node_size: (figures[1] % 0x1_0000_0000) as u32,
-        record_size: (figures[2] % 0x1_0000) as u16,
-        offset_size,
-    };
-    BTreeV2Header {
-        tree_type: (figures[0] % 0x100) as u8,
-        geometry,
-        depth: (figures[3] % 0x1_0000) as u16,
-        root_node_address: figures[4],
-        num_records_in_root: (figures[5] % 0x1_0000) as u16,
-        total_records: figures[6],
-        base: base_of(figures),
-    }
-}
-
-// The records of a header's tree put out, its addresses counted from the header's base on.
-#[no_mangle]
-pub extern "C" fn btree_v2_collect_at(
-    file: &[u8],
-    header: &[u64; 8],
-    offset_size: u8,
-    output: &mut [u8],
-    answer: &mut [u64; 7],
-)
-    ensures answered { λ _. ⌜ now (answer .exit) ≡ runCells (collectedAt (now (file .entry)) (headerOf (now (header .entry)) «offset_size») (now (output .entry))) ⌝ }
-    ensures outputLeft { λ _. ⌜ now (output .exit) ≡ runOutput (collectedAt (now (file .entry)) (headerOf (now (header .entry)) «offset_size») (now (output .entry))) ⌝ }
-{
-    let collected = collect::collect_btree_v2_records(file, header_of(header, offset_size), output);
-    answers::put_collected(answer, collected);
-}
-
-// The record with the key sought, by the header that the figures tell.
-fn find_told(
-    file: &[u8],
-    figures: &[u64],
-    offset_size: u8,
-    key_start: u64,
-    key_width: u64,
-    key: u64,
-    answer: &mut [u64; 6],
-)
-    requires { ⌜ 7 ≤ length (now figures) ⌝ }
-    ensures { λ _. ⌜ now (answer .exit) ≡ foundAt (now (file .entry)) (headerOf (now (figures .entry)) «offset_size») (fieldAt «key_start» «key_width») key ⌝ }
-{
-    let field = Field {
-        start: key_start,
-        width: key_width,
-    };
-    let found = btree_v2_find::find(file, header_of(figures, offset_size), field, key);
-    answers::put_found(answer, found);
+        0,
+    ];
+    btree_v2_collect_at(file, &header, offset_size, output, answer);
 }
 
 // The record of a header's tree that has the key sought in this field. The answer has the refusal's number and two values, zeros where the
 // call is accepted; then, refused or not, the nodes read; then 1 and the record's place, or zeros where none was found.
-#[no_mangle]
-pub extern "C" fn btree_v2_find(
-    file: &[u8],
-    header: &[u64; 7],
-    offset_size: u8,
-    key_start: u64,
-    key_width: u64,
-    key: u64,
-    answer: &mut [u64; 6],
-)
-    ensures { λ _. ⌜ now (answer .exit) ≡ found (now (file .entry)) (headerOf (now (header .entry)) «offset_size») (fieldAt «key_start» «key_width») key ⌝ }
-{
-    find_told(file, header, offset_size, key_start, key_width, key, answer);
-}
-
-// The same in the part of a file from the header's base on, in which the record's place is counted too.
 #[no_mangle]
 pub extern "C" fn btree_v2_find_at(
     file: &[u8],
@@ -269,28 +225,48 @@ pub extern "C" fn btree_v2_find_at(
 )
     ensures { λ _. ⌜ now (answer .exit) ≡ foundAt (now (file .entry)) (headerOf (now (header .entry)) «offset_size») (fieldAt «key_start» «key_width») key ⌝ }
 {
-    find_told(file, header, offset_size, key_start, key_width, key, answer);
+    let field = Field {
+        start: key_start,
+        width: key_width,
+    };
+    let found = btree_v2_find::find(file, header_of(header, offset_size), field, key);
+    answers::put_found(answer, found);
+}
+
+#[no_mangle]
+pub extern "C" fn btree_v2_find(
+    file: &[u8],
+    header: &[u64; 7],
+    offset_size: u8,
+    key_start: u64,
+    key_width: u64,
+    key: u64,
+    answer: &mut [u64; 6],
+)
+    ensures { λ _. ⌜ now (answer .exit) ≡ found (now (file .entry)) (headerOf (now (header .entry)) «offset_size») (fieldAt «key_start» «key_width») key ⌝ }
+{
+    let figures = [
+        header[0],
+        header[1],
+        header[2],
+        header[3],
+        header[4],
+        header[5],
+        header[6],
+        0,
+    ];
+    btree_v2_find_at(
+        file,
+        &figures,
+        offset_size,
+        key_start,
+        key_width,
+        key,
+        answer,
+    );
 }
 
 // Record `index` of a leaf, copied to the front of the output: its length, 0 where the index is not below the count.
-#[no_mangle]
-pub extern "C" fn btree_v2_leaf_record(
-    file: &[u8],
-    address: u64,
-    count: u16,
-    record_size: u16,
-    index: u64,
-    output: &mut [u8],
-    answer: &mut [u64; 3],
-)
-    ensures answered { λ _. ⌜ now (answer .exit) ≡ cells 3 (recordAnswer (now (file .entry)) «record_size» address count index (now (output .entry))) ⌝ }
-    ensures outputLeft { λ _. ⌜ now (output .exit) ≡ recordExit (now (file .entry)) «record_size» address count index (now (output .entry)) ⌝ }
-{
-    let copied = copy_leaf_record(file, 0, address, count, record_size, index, output);
-    answers::put_record(answer, copied);
-}
-
-// Record `index` of a leaf in the part of a file from a base on.
 #[no_mangle]
 pub extern "C" fn btree_v2_leaf_record_at(
     file: &[u8],
@@ -307,4 +283,20 @@ pub extern "C" fn btree_v2_leaf_record_at(
 {
     let copied = copy_leaf_record(file, base, address, count, record_size, index, output);
     answers::put_record(answer, copied);
+}
+
+#[no_mangle]
+pub extern "C" fn btree_v2_leaf_record(
+    file: &[u8],
+    address: u64,
+    count: u16,
+    record_size: u16,
+    index: u64,
+    output: &mut [u8],
+    answer: &mut [u64; 3],
+)
+    ensures answered { λ _. ⌜ now (answer .exit) ≡ cells 3 (recordAnswer (now (file .entry)) «record_size» address count index (now (output .entry))) ⌝ }
+    ensures outputLeft { λ _. ⌜ now (output .exit) ≡ recordExit (now (file .entry)) «record_size» address count index (now (output .entry)) ⌝ }
+{
+    btree_v2_leaf_record_at(file, 0, address, count, record_size, index, output, answer);
 }

@@ -5,9 +5,10 @@ use lib.Dec.{lit<, lit≤}
 use Rattle.refusal.specs.Answer.{Answer, accepted, refused, refusalOf, verdictOf, cells}
 use mathlib.Core.List.{List, [], _∷_, _++_, append-assoc}
 use native.Mathlib.Nat.{add-comm}
+use native.Mathlib.Numerals.{add-one}
 use native.Mathlib.Omega.{arith}
 use lib.ListN.{length, take, replicate, length-take, length-append, length-replicate, replicate-append-replicate}
-use lib.Seq.{take-append-add, take-append-le, take-at}
+use lib.Seq.{take-append-add, take-append-le, take-take, take-at}
 use Rattle.refusal.specs.declared.Refusal.{Refusal}
 use Rattle.refusal.specs.declared.Refusal.the-variants.{UnexpectedEof, InvalidBTreeV2Signature, InvalidBTreeV2Version, InvalidOffsetSize, InvalidLengthSize, ChecksumMismatch, InvalidNodeSize, ZeroRecordSize, TooManyRecords}
 use Rattle.refusal.specs.declared.Refusal.the-variants.{LevelHoldsNone, SubtreeTooThin, RecordBufferLength, CountAboveLengthSize, AddressAboveOffsetSize, OutputTooShort, DepthAboveLimit, InvalidKeyField, BaseBeyondFile}
@@ -30,14 +31,22 @@ pub cells-accepted : (k : ℕ) (figures : List ℕ) (n : ℕ) → k ≡ suc (len
 unfolding cells
 cells-accepted k figures n e = nextRecord 0 (0 ∷ figures) k n e
 
--- A zero behind the figures changes nothing.
+-- A zero more behind the numbers changes nothing: behind the figures, or where one number more is asked.
+one-more : (k : ℕ) (l : List ℕ) → take k (l ++ replicate (suc k) 0) ≡ take k (l ++ replicate k 0)
+one-more k l =
+    let zeros : ℕ → List ℕ = λ n. replicate n 0 in
+    let long : k ≤ length (l ++ zeros k) = simp (length-append, length-replicate) (omega arith) in
+    let turned : zeros (suc k) ≡ zeros k ++ zeros 1 = sym (rw (add-one k) at (replicate-append-replicate {A = ℕ} k 1 0)) in
+    rw (turned, ← append-assoc l (zeros k) (zeros 1)) (take-append-le k (l ++ zeros k) (zeros 1) long)
+
 pub cells-zero : (k : ℕ) (figures : List ℕ) → cells k (accepted (figures ++ (0 ∷ []))) ≡ cells k (accepted figures)
 unfolding cells
-cells-zero k figures =
-    let one : List ℕ = 0 ∷ [] in
-    let turned : one ++ replicate k 0 ≡ replicate k 0 ++ one = replicate-append-replicate 1 k 0 ∙ rw add-comm (sym (replicate-append-replicate k 1 0)) in
-    rw (append-assoc figures one (replicate k 0), turned, ← append-assoc figures (replicate k 0) one)
-    (take-append-le k (0 ∷ (figures ++ replicate k 0)) one (simp (length-append, length-replicate) (omega arith)))
+cells-zero k figures = let one : List ℕ = 0 ∷ [] in rw (append-assoc figures one (replicate k 0)) (one-more k (0 ∷ figures))
+
+pub cells-front : (k : ℕ) (a : Answer) → take k (cells (suc k) a) ≡ cells k a
+unfolding cells
+cells-front k (accepted figures) = let few : k ≤ suc k = omega arith in rw (take-take k (suc k) _ few) (one-more k (0 ∷ figures))
+cells-front k (refused number values) = let few : k ≤ suc k = omega arith in rw (take-take k (suc k) _ few) (one-more k (number ∷ values))
 
 pub cells-refused : (k number : ℕ) (values : List ℕ) (n : ℕ) → k ≡ suc (length values) + n
     → cells k (refused number values) ≡ (number ∷ values) ++ replicate n 0

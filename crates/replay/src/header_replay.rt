@@ -14,7 +14,7 @@ fn numbers(answer: HeaderAnswer) -> [u64; 9]
     ensures { λ r. ⌜ 9 ≡ length r ⌝ }
 {
     let mut numbers = [0; 9];
-    answers::put_header_at(&mut numbers, answer);
+    answers::put_header(&mut numbers, answer);
     numbers
 }
 

@@ -1,5 +1,5 @@
--- `put_header`: the first eight of the nine numbers.
-use Rattle.answers.proofs.Putting.{eight-put}
+-- `put_header`: the fields, or the refusal.
+use Rattle.answers.proofs.Putting.{header-put, header-refused}
 use borrow.Author.Needs.{needs}
 use Rattle.answers.proofs.put_header.Statement.{statement}
 use Rattle.answers.proofs.put_header.Tie as tie
@@ -8,6 +8,7 @@ pub put-header-spec : {M : Type 1} → statement M
 put-header-spec =
     tie.close
     (tie.spec
-    (λ c κs. search needs) (λ c. search needs) (λ c. search needs) (λ c. search needs) (λ c. search needs)
-    (λ c. search needs) (λ c. search needs) (λ c. search needs) (λ c. search needs)
-    (λ c. search eight-put))
+    (λ c. search needs) (λ c. search needs) (λ c. search needs) (λ c. search needs) (λ c. search needs)
+    (λ c. search needs) (λ c. search needs) (λ c κs. search needs)
+    (λ c. search header-put)
+    (λ c. search header-refused))

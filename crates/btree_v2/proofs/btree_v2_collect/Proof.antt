@@ -1,6 +1,8 @@
--- `btree_v2_collect` puts what the collector answers with base 0.
-use mathlib.Core.Path.{refl, _∙_}
-use Rattle.btree_v2_collect.proofs.Bases.{ends-whole}
+-- `btree_v2_collect`: the numbers as figures, and base 0 behind them.
+use mathlib.Core.Path.{refl, ap, _∙_}
+use Rattle.btree_v2_collect.specs.Collect.{runCells, runOutput}
+use Rattle.btree_v2.specs.Given.{sizes, given}
+use Rattle.btree_v2.proofs.Figures.{InRange, collect-whole}
 use borrow.Author.Needs.{needs}
 use Rattle.btree_v2.proofs.btree_v2_collect.Statement.{statement}
 use Rattle.btree_v2.proofs.btree_v2_collect.Tie as tie
@@ -9,8 +11,12 @@ pub btree-v2-collect-spec : {M : Type 1} → statement M
 btree-v2-collect-spec =
     tie.close
     (tie.spec
-    (λ c κs. search needs) (λ c κs. search needs) (λ c. search needs)
+    (λ c κs. search needs) (λ c. search needs)
     (λ c.
-    let collect = c .before .before .before .before in
-    let ended = ends-whole _ _ _ (collect .collect-btree-v2-records .result) _ refl (collect .collect-btree-v2-records .ensures) in
-    (c .put-collected .ensures ∙ ended .0, ended .1)))
+    let call = c .before .before in
+    let entry = call .before .before .before .before .before .before in
+    let range : InRange (given (entry .args .tree-type) (sizes (entry .args .node-size) (entry .args .record-size) (entry .args .offset-size)) (entry .args .depth) (entry .args .root-address) (entry .args .root-records) (entry .args .total-records) 0) =
+    record { treeType = search needs; nodeSize = search needs; recordSize = search needs; depth = search needs; rootRecords = search needs }
+    in
+    let whole = collect-whole _ _ _ range refl in
+    (call .btree-v2-collect-at .ensures .0 ∙ ap runCells whole, call .btree-v2-collect-at .ensures .1 ∙ ap runOutput whole)))

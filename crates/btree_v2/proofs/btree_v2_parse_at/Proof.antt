@@ -10,4 +10,4 @@ btree-v2-parse-at-spec =
     tie.close
     (tie.spec
     (λ c κs. search needs) (λ c κs. search needs)
-    (λ c. put-is (c .before .before .parse .ensures .answer) refl (c .put-header-at .ensures)))
+    (λ c. put-is (c .before .before .parse .ensures .answer) refl (c .put-header .ensures)))

@@ -1,0 +1,12 @@
+-- `btree_v2_find_at` puts what finding answers of the header that the figures tell.
+use Rattle.btree_v2.proofs.Figures.{find-told}
+use borrow.Author.Needs.{needs}
+use Rattle.btree_v2.proofs.btree_v2_find_at.Statement.{statement}
+use Rattle.btree_v2.proofs.btree_v2_find_at.Tie as tie
+
+pub btree-v2-find-at-spec : {M : Type 1} → statement M
+btree-v2-find-at-spec =
+    tie.close
+    (tie.spec
+    (λ c κs. search needs) (λ c κs. search needs) (λ c κs. search needs)
+    (λ c. let find = c .before .before in find-told _ _ _ (c .put-found .ensures) (find .find .ensures) (find .before .header-of .ensures)))
