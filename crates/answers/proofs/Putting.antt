@@ -1,11 +1,14 @@
 -- What stands in the caller's array, in the forms in which the functions' proofs have it.
-use mathlib.Core.Path.{_≡_, refl}
+use mathlib.Core.Path.{_≡_, refl, sym, ap, _∙_}
 use mathlib.Core.List.{List, [], _∷_, _++_}
-use Prim.Native.Nat.{ℕ, suc, _+_}
-use lib.ListN.{length, length-append}
+use Prim.Native.Nat.{ℕ, suc, _+_, _≤_, _<_}
+use native.Mathlib.Omega.{arith}
+use lib.ListN.{length, getD, length-append}
+use Rattle.numbers.specs.Places.{stored, put}
+use Rattle.numbers.proofs.Lists.{put-fits, put-not}
 use Rattle.refusal.specs.declared.Refusal.{Refusal}
-use Rattle.refusal.specs.Answer.{refusalOf, verdictOf, cells}
-use Rattle.refusal.proofs.Answers.{length-cells, code-more}
+use Rattle.refusal.specs.Answer.{refused, refusalOf, verdictOf, cells}
+use Rattle.refusal.proofs.Answers.{length-cells, refused-is, code-more}
 use Rattle.plan.specs.declared.BTreeV2Plan.{BTreeV2Plan}
 use Rattle.plan.specs.declared.PlanAnswer.{PlanAnswer}
 use Rattle.plan.specs.declared.PlanAnswer.the-variants as plan
@@ -36,15 +39,35 @@ pub plan-refused : {p : PlanAnswer} (cause : Refusal) {n x y : ℕ} → p ≡ pl
     → n ∷ x ∷ y ∷ 0 ∷ 0 ∷ [] ≡ cells 5 (planAnswerOf p)
 plan-refused cause e code = rw e (code-more cause 2 code)
 
--- The header's fields with the base, or its refusal.
-pub header-put : {p : HeaderAnswer} {h : BTreeV2Header} → p ≡ header.Parsed h
-    → (0 ∷ headerFigures h) ++ (h .base ∷ []) ≡ cells 9 (headerAnswerOf p)
-unfolding cells
-header-put e = rw e
+-- The header's fields, or its refusal, over the front of an answer; and the base.
+module _ (a : List ℕ) (p : HeaderAnswer) where
+  pub header-short : length a < 8 → a ≡ put a 0 (cells 8 (headerAnswerOf p))
+  header-short h = sym (put-not a 0 (cells 8 (headerAnswerOf p)) (rw length-cells (omega arith)))
 
-pub header-refused : {p : HeaderAnswer} (cause : Refusal) {n x y : ℕ} → p ≡ header.Refused cause → n ∷ x ∷ y ∷ [] ≡ cells 3 (refusalOf cause)
-    → n ∷ x ∷ y ∷ 0 ∷ 0 ∷ 0 ∷ 0 ∷ 0 ∷ 0 ∷ [] ≡ cells 9 (headerAnswerOf p)
-header-refused cause e code = rw e (code-more cause 6 code)
+  over-front : {o n : List ℕ} → 8 ≤ length a → o ≡ stored a 0 n → n ≡ cells 8 (headerAnswerOf p) → o ≡ put a 0 (cells 8 (headerAnswerOf p))
+  over-front h is e = is ∙ ap (stored a 0) e ∙ sym (put-fits a 0 (cells 8 (headerAnswerOf p)) (rw length-cells (omega arith)))
+
+  pub header-put : (h : BTreeV2Header) {o : List ℕ} → 8 ≤ length a → p ≡ header.Parsed h → o ≡ stored a 0 (0 ∷ headerFigures h) → o ≡ put a 0 (cells 8 (headerAnswerOf p))
+  unfolding cells
+  header-put h l e is = over-front l is (rw e)
+
+  pub header-refused : (cause : Refusal) {n x y : ℕ} {o : List ℕ} → 8 ≤ length a → p ≡ header.Refused cause → n ∷ x ∷ y ∷ [] ≡ cells 3 (refusalOf cause)
+      → o ≡ stored a 0 (n ∷ x ∷ y ∷ 0 ∷ 0 ∷ 0 ∷ 0 ∷ 0 ∷ []) → o ≡ put a 0 (cells 8 (headerAnswerOf p))
+  header-refused cause l e code is = over-front l is (rw e (code-more cause 5 code))
+
+pub carried-parsed : {p : HeaderAnswer} {h : BTreeV2Header} → p ≡ header.Parsed h → h .base ≡ getD (cells 9 (headerAnswerOf p)) 8 0
+unfolding cells
+carried-parsed e = rw e
+
+pub carried-refused : {p : HeaderAnswer} (cause : Refusal) → p ≡ header.Refused cause → 0 ≡ getD (cells 9 (headerAnswerOf p)) 8 0
+unfolding cells
+carried-refused cause e = let s = refused-is cause in rw (e, s .2) (none (s .0) (s .1) (s .3))
+  where
+    none : (number : ℕ) (values : List ℕ) → length values ≤ 2 → 0 ≡ getD (cells 9 (refused number values)) 8 0
+    none number [] h = refl
+    none number (_ ∷ []) h = refl
+    none number (_ ∷ _ ∷ []) h = refl
+    none number (_ ∷ _ ∷ _ ∷ r) h = absurd (omega arith)
 
 -- The length of a record, or why it was not copied.
 pub record-put : {p : RecordAnswer} {k : ℕ} → p ≡ copied.Copied k → 0 ∷ k ∷ 0 ∷ [] ≡ cells 3 (recordAnswerOf p)

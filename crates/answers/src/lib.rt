@@ -9,8 +9,8 @@ ghost use Rattle.btree_v2_leaf_view.specs.Answers.{recordAnswerOf};
 ghost use Rattle.btree_v2_collect.specs.Answers.{collectedCells};
 ghost use Rattle.btree_v2_find.specs.Answers.{foundCells};
 ghost use Prim.Native.Nat.{_+_, _≤_};
-ghost use lib.ListN.{length, replicate};
-ghost use Rattle.numbers.specs.Places.{stored};
+ghost use lib.ListN.{length, getD, replicate};
+ghost use Rattle.numbers.specs.Places.{stored, put};
 ghost use Rattle.node_info.specs.Table.{tableAnswer};
 use btree_v2_collect::Collected;
 use btree_v2_find::Found;
@@ -43,14 +43,17 @@ pub fn put_plan(answer: &mut [u64; 5], planned: PlanAnswer)
     }
 }
 
-// The header's fields, and behind them the base.
-pub fn put_header(answer: &mut [u64; 9], parsed: HeaderAnswer)
-    ensures { λ _. ⌜ now (answer .exit) ≡ cells 9 (headerAnswerOf parsed) ⌝ }
+// The header's fields without the base, over the front of the answer; where it has not eight places, nothing is changed.
+pub fn put_header(answer: &mut [u64], parsed: HeaderAnswer)
+    ensures { λ _. ⌜ now (answer .exit) ≡ put (now (answer .entry)) 0 (cells 8 (headerAnswerOf parsed)) ⌝ }
 {
+    if answer.len() < 8 {
+        return;
+    }
     match parsed {
         HeaderAnswer::Parsed(header) => {
             let geometry = header.geometry;
-            *answer = [
+            let figures = [
                 0,
                 header.tree_type as u64,
                 geometry.node_size as u64,
@@ -59,13 +62,24 @@ pub fn put_header(answer: &mut [u64; 9], parsed: HeaderAnswer)
                 header.root_node_address,
                 header.num_records_in_root as u64,
                 header.total_records,
-                header.base,
             ];
+            put_column(answer, 0, &figures);
         }
         HeaderAnswer::Refused(cause) => {
             let code = cause.code();
-            *answer = [code.number, code.first, code.second, 0, 0, 0, 0, 0, 0];
+            let numbers = [code.number, code.first, code.second, 0, 0, 0, 0, 0];
+            put_column(answer, 0, &numbers);
         }
+    }
+}
+
+// The base that a header read carries: the ninth of its numbers.
+pub fn carried_base(parsed: HeaderAnswer) -> u64
+    ensures { λ r. ⌜ r ≡ getD (cells 9 (headerAnswerOf parsed)) 8 0 ⌝ }
+{
+    match parsed {
+        HeaderAnswer::Parsed(header) => header.base,
+        HeaderAnswer::Refused(_) => 0,
     }
 }
 
@@ -143,7 +157,7 @@ fn put_refusal(answer: &mut [u64], cause: Refusal)
     clear(&mut answer[3..]);
 }
 
-// A column of capacities, from `at` on.
+// Numbers, from `at` on.
 fn put_column(answer: &mut [u64], at: usize, column: &[u64])
     requires { ⌜ at + length (now column) ≤ length (now answer) ⌝ }
     ensures { λ _. ⌜ now (answer .exit) ≡ stored (now (answer .entry)) at (now (column .entry)) ⌝ }

@@ -1,24 +1,24 @@
 -- The header that a C caller's figures tell, and the functions without a base by those with one.
-use mathlib.Core.Path.{_≡_, refl, ap, _∙_}
+use mathlib.Core.Path.{_≡_, sym, ap, _∙_}
 use mathlib.Core.List.{List, [], _∷_, _++_}
-use Prim.Native.Nat.{ℕ, _^_, _≤_, _<_}
+use Prim.Native.Nat.{ℕ, _+_, _%_, _^_, _≤_, _<_}
 use native.Mathlib.Nat.{mod-eq-of-lt}
 use native.Mathlib.Omega.{arith}
-use lib.ListN.{length, getD, take}
-use lib.Seq.{take-suc}
+use lib.ListN.{length, getD, set, List·getD-eq-default}
+use Rattle.numbers.specs.Places.{stored, put}
+use Rattle.numbers.proofs.Lists.{put-fits, length-stored, stored-whole, stored-snoc}
 use Rattle.refusal.specs.Answer.{Answer, cells}
-use Rattle.refusal.proofs.Answers.{length-cells, cells-front}
+use Rattle.refusal.proofs.Answers.{length-cells, cells-snoc}
 use Rattle.field.specs.declared.Field.{Field}
 use Rattle.btree_v2_header.specs.declared.BTreeV2Header.{BTreeV2Header}
-use Rattle.btree_v2_header.specs.Header.{headerFigures, withBase, parsed, parsedAt}
-use Rattle.btree_v2_header.proofs.Bases.{cells-whole}
+use Rattle.btree_v2_header.specs.Header.{headerFigures}
 use Rattle.btree_v2_collect.specs.Collect.{collected, collectedAt}
 use Rattle.btree_v2_collect.specs.Answers.{Ends}
 use Rattle.btree_v2_collect.specs.declared.Collected.{Collected}
 use Rattle.btree_v2_collect.proofs.Bases.{collected-whole}
 use Rattle.btree_v2_find.specs.Find.{found, foundAt}
-use Rattle.btree_v2_find.proofs.Bases.{found-whole, found-based}
-use Rattle.btree_v2.specs.Given.{headerOf}
+use Rattle.btree_v2_find.proofs.Bases.{found-whole}
+use Rattle.btree_v2.specs.Given.{sizes, given, headerOf}
 
 -- Numbers of a header that are within their fields' ranges.
 pub record InRange (h : BTreeV2Header) : Type 0 where
@@ -33,18 +33,36 @@ pub told-as-read : (h : BTreeV2Header) → InRange h → headerOf (headerFigures
 told-as-read h r =
     rw (mod-eq-of-lt (r .treeType), mod-eq-of-lt (r .nodeSize), mod-eq-of-lt (r .recordSize), mod-eq-of-lt (r .depth), mod-eq-of-lt (r .rootRecords))
 
--- The first eight of a header read's nine numbers.
-abbrev eight : List ℕ → List ℕ
-eight l = getD l 0 0 ∷ getD l 1 0 ∷ getD l 2 0 ∷ getD l 3 0 ∷ getD l 4 0 ∷ getD l 5 0 ∷ getD l 6 0 ∷ getD l 7 0 ∷ []
+-- `base_of` and `header_of`.
+pub no-base : (figures : List ℕ) → length figures < 8 → 0 ≡ getD figures 7 0
+no-base figures h = sym (List·getD-eq-default figures 0 (omega arith))
 
-eight-first : (l : List ℕ) → 8 ≤ length l → eight l ≡ take 8 l
-eight-first l h =
-    rw (take-suc l 7 0 (omega arith), take-suc l 6 0 (omega arith), take-suc l 5 0 (omega arith), take-suc l 4 0 (omega arith), take-suc l 3 0 (omega arith), take-suc l 2 0 (omega arith), take-suc l 1 0 (omega arith), take-suc l 0 0 (omega arith))
+pub told-header : (figures : List ℕ) (ow base : ℕ) → base ≡ getD figures 7 0
+    → given (getD figures 0 0 % 2 ^ 8) (sizes (getD figures 1 0 % 2 ^ 32) (getD figures 2 0 % 2 ^ 16) ow) (getD figures 3 0 % 2 ^ 16)
+    (getD figures 4 0) (getD figures 5 0 % 2 ^ 16) (getD figures 6 0) base
+    ≡ headerOf figures ow
+told-header figures ow base e = rw e
 
-pub parse-whole : (file : List ℕ) (o ow lw : ℕ) {all : List ℕ} → all ≡ cells 9 (parsedAt file 0 o ow lw) → eight all ≡ cells 8 (parsed file o ow lw)
-parse-whole file o ow lw {all} e =
-    let nine : length all ≡ 9 = rw (e, length-cells) in
-    eight-first all (omega arith) ∙ ap (take 8) e ∙ cells-front 8 (parsedAt file 0 o ow lw) ∙ cells-whole 8 file o ow lw
+-- A header read's numbers over the front of an answer of eight places, or of nine, with the base behind them.
+module _ (o n : List ℕ) (x y : Answer) (same : x ≡ y) (room : (8 ≤ length o) × (length o ≤ 9)) (read : n ≡ put o 0 (cells 8 x)) where
+  front : n ≡ stored o 0 (cells 8 x)
+  front = read ∙ put-fits o 0 (cells 8 x) (omega (arith, length-cells 8 x))
+
+  kept : length n ≡ length o
+  kept = rw front (length-stored o 0 (cells 8 x) (omega (arith, length-cells 8 x)))
+
+  pub eight-read : length n ≤ 8 → n ≡ cells (length o) y
+  eight-read l =
+      let eight : length o ≡ 8 = omega (arith, kept) in
+      rw (← same, eight) (front ∙ stored-whole o (cells 8 x) (omega (arith, length-cells 8 x)))
+
+  pub nine-read : {b : ℕ} → 8 < length n → b ≡ getD (cells 9 x) 8 0 → set n 8 b ≡ cells (length o) y
+  nine-read {b} l is =
+      let nine : length o ≡ 9 = omega (arith, kept) in
+      let behind : 0 + length (cells 8 x) ≡ 8 = omega (arith, length-cells 8 x) in
+      let more = rw behind at (stored-snoc o 0 (cells 8 x) b (omega (arith, length-cells 8 x))) in
+      let whole : stored o 0 (cells 9 x) ≡ cells 9 x = stored-whole o (cells 9 x) (omega (arith, length-cells 9 x)) in
+      rw (← same, nine, front) (more ∙ rw (is, cells-snoc 8 x) whole)
 
 -- Collecting.
 pub collect-told : (file out : List ℕ) (h k : BTreeV2Header) (r : Collected) (exit : List ℕ) → h ≡ k → Ends (collectedAt file h out) r exit
@@ -60,5 +78,5 @@ module _ (file : List ℕ) (f : Field) (x : ℕ) {answer : List ℕ} where
   pub find-told : {h k : BTreeV2Header} {cells : List ℕ} → answer ≡ cells → cells ≡ foundAt file h f x → h ≡ k → answer ≡ foundAt file k f x
   find-told put is told = put ∙ is ∙ rw told
 
-  pub find-whole : (l : List ℕ) (ow : ℕ) → answer ≡ foundAt file (withBase 0 (headerOf l ow)) f x → answer ≡ found file (headerOf l ow) f x
-  find-whole l ow is = is ∙ found-whole (withBase 0 (headerOf l ow)) f x file refl ∙ found-based file (headerOf l ow) 0 f x
+  pub find-whole : (l : List ℕ) (ow : ℕ) → answer ≡ foundAt file (headerOf l ow) f x → 7 ≡ length l → answer ≡ found file (headerOf l ow) f x
+  find-whole l ow is seven = is ∙ found-whole (headerOf l ow) f x file (sym (no-base l (omega arith)))

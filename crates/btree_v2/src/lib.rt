@@ -2,6 +2,8 @@
 // number, 0 where the call is accepted, then the figures or the refusal's values, then zeros.
 
 ghost use mathlib.Core.Path.{_≡_};
+ghost use Prim.Native.Nat.{_≤_};
+ghost use lib.ListN.{length, getD};
 ghost use Rattle.refusal.specs.Answer.{cells};
 ghost use Rattle.node_info.specs.Table.{tabled};
 ghost use Rattle.plan.specs.Planned.{planAnswer};
@@ -99,8 +101,20 @@ pub extern "C" fn btree_v2_write(
     answers::put_plan(answer, written);
 }
 
-// The header that its figures tell, as btree_v2_parse_at gives them; a number above its field's range counts modulo that range.
-fn header_of(figures: &[u64; 8], offset_size: u8) -> BTreeV2Header
+// The base of a header's figures: the eighth, 0 where there are seven.
+fn base_of(figures: &[u64]) -> u64
+    ensures { λ r. ⌜ r ≡ getD (now (figures .entry)) 7 0 ⌝ }
+{
+    if figures.len() < 8 {
+        return 0;
+    }
+    figures[7]
+}
+
+// The header that its figures tell, as btree_v2_parse or btree_v2_parse_at gives them; a number above its field's range counts modulo that
+// range.
+fn header_of(figures: &[u64], offset_size: u8) -> BTreeV2Header
+    requires { ⌜ 7 ≤ length (now figures) ⌝ }
     ensures { λ r. ⌜ r ≡ headerOf (now (figures .entry)) «offset_size» ⌝ }
 {
     let geometry = Geometry {
@@ -115,14 +129,45 @@ fn header_of(figures: &[u64; 8], offset_size: u8) -> BTreeV2Header
         root_node_address: figures[4],
         num_records_in_root: (figures[5] % 0x1_0000) as u16,
         total_records: figures[6],
-        base: figures[7],
+        base: base_of(figures),
     }
 }
 
-// The reading calls. Those that end in `_at` read the part of a file from a base on, and count every place in it; the others are these with
-// base 0.
+// The header at an offset of the part of a file from a base on, into eight places, or nine with the base.
+fn parse_into(
+    file: &[u8],
+    base: u64,
+    offset: u64,
+    offset_size: u8,
+    length_size: u8,
+    answer: &mut [u64],
+)
+    requires { ⌜ (8 ≤ length (now answer)) × (length (now answer) ≤ 9) ⌝ }
+    ensures { λ _. ⌜ now (answer .exit) ≡ cells (length (now (answer .entry))) (parsedAt (now (file .entry)) base offset «offset_size» «length_size») ⌝ }
+{
+    let parsed = BTreeV2Header::parse(file, base, offset, offset_size, length_size);
+    answers::put_header(answer, parsed);
+    if 8 < answer.len() {
+        answer[8] = answers::carried_base(parsed);
+    }
+}
 
-// The header at an offset: type, node size, record size, depth, root's address and records, records in all, base.
+// The reading calls. Those that end in `_at` read the part of a file from a base on, and count every place in it; the others read with base 0.
+
+// The header at an offset: type, node size, record size, depth, root's address and records, records in all; and the base.
+#[no_mangle]
+pub extern "C" fn btree_v2_parse(
+    file: &[u8],
+    offset: u64,
+    offset_size: u8,
+    length_size: u8,
+    answer: &mut [u64; 8],
+)
+    ensures { λ _. ⌜ now (answer .exit) ≡ cells 8 (parsed (now (file .entry)) offset «offset_size» «length_size») ⌝ }
+{
+    parse_into(file, 0, offset, offset_size, length_size, answer);
+}
+
 #[no_mangle]
 pub extern "C" fn btree_v2_parse_at(
     file: &[u8],
@@ -134,32 +179,7 @@ pub extern "C" fn btree_v2_parse_at(
 )
     ensures { λ _. ⌜ now (answer .exit) ≡ cells 9 (parsedAt (now (file .entry)) base offset «offset_size» «length_size») ⌝ }
 {
-    let parsed = BTreeV2Header::parse(file, base, offset, offset_size, length_size);
-    answers::put_header(answer, parsed);
-}
-
-#[no_mangle]
-pub extern "C" fn btree_v2_parse(
-    file: &[u8],
-    offset: u64,
-    offset_size: u8,
-    length_size: u8,
-    answer: &mut [u64; 8],
-)
-    ensures { λ _. ⌜ now (answer .exit) ≡ cells 8 (parsed (now (file .entry)) offset «offset_size» «length_size») ⌝ }
-{
-    let mut all = [0u64; 9];
-    btree_v2_parse_at(file, 0, offset, offset_size, length_size, &mut all);
-    *answer = [
-        all[0],
-        all[1],
-        all[2],
-        all[3],
-        all[4],
-        all[5],
-        all[6],
-        all[7],
-    ];
+    parse_into(file, base, offset, offset_size, length_size, answer);
 }
 
 // The records of a header's tree put out. The answer has the refusal's number and two values, zeros where the call is accepted, and then,
@@ -211,28 +231,29 @@ pub extern "C" fn btree_v2_collect(
     btree_v2_collect_at(file, &header, offset_size, output, answer);
 }
 
-// The record of a header's tree that has the key sought in this field. The answer has the refusal's number and two values, zeros where the
-// call is accepted; then, refused or not, the nodes read; then 1 and the record's place, or zeros where none was found.
-#[no_mangle]
-pub extern "C" fn btree_v2_find_at(
+// The record with the key sought in this field, by the header that the figures tell.
+fn find_told(
     file: &[u8],
-    header: &[u64; 8],
+    figures: &[u64],
     offset_size: u8,
     key_start: u64,
     key_width: u64,
     key: u64,
     answer: &mut [u64; 6],
 )
-    ensures { λ _. ⌜ now (answer .exit) ≡ foundAt (now (file .entry)) (headerOf (now (header .entry)) «offset_size») (fieldAt «key_start» «key_width») key ⌝ }
+    requires { ⌜ 7 ≤ length (now figures) ⌝ }
+    ensures { λ _. ⌜ now (answer .exit) ≡ foundAt (now (file .entry)) (headerOf (now (figures .entry)) «offset_size») (fieldAt «key_start» «key_width») key ⌝ }
 {
     let field = Field {
         start: key_start,
         width: key_width,
     };
-    let found = btree_v2_find::find(file, header_of(header, offset_size), field, key);
+    let found = btree_v2_find::find(file, header_of(figures, offset_size), field, key);
     answers::put_found(answer, found);
 }
 
+// The record of a header's tree that has the key sought in this field. The answer has the refusal's number and two values, zeros where the
+// call is accepted; then, refused or not, the nodes read; then 1 and the record's place, or zeros where none was found.
 #[no_mangle]
 pub extern "C" fn btree_v2_find(
     file: &[u8],
@@ -245,25 +266,22 @@ pub extern "C" fn btree_v2_find(
 )
     ensures { λ _. ⌜ now (answer .exit) ≡ found (now (file .entry)) (headerOf (now (header .entry)) «offset_size») (fieldAt «key_start» «key_width») key ⌝ }
 {
-    let figures = [
-        header[0],
-        header[1],
-        header[2],
-        header[3],
-        header[4],
-        header[5],
-        header[6],
-        0,
-    ];
-    btree_v2_find_at(
-        file,
-        &figures,
-        offset_size,
-        key_start,
-        key_width,
-        key,
-        answer,
-    );
+    find_told(file, header, offset_size, key_start, key_width, key, answer);
+}
+
+#[no_mangle]
+pub extern "C" fn btree_v2_find_at(
+    file: &[u8],
+    header: &[u64; 8],
+    offset_size: u8,
+    key_start: u64,
+    key_width: u64,
+    key: u64,
+    answer: &mut [u64; 6],
+)
+    ensures { λ _. ⌜ now (answer .exit) ≡ foundAt (now (file .entry)) (headerOf (now (header .entry)) «offset_size») (fieldAt «key_start» «key_width») key ⌝ }
+{
+    find_told(file, header, offset_size, key_start, key_width, key, answer);
 }
 
 // Record `index` of a leaf, copied to the front of the output: its length, 0 where the index is not below the count.

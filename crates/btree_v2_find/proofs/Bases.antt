@@ -11,12 +11,11 @@ use Rattle.refusal.specs.declared.Verdict.the-variants.{Accepted, Refused}
 use Rattle.read_checks.specs.Base.{baseTest}
 use Rattle.read_checks.proofs.Base.{on-part-within, on-part-beyond, on-part-whole, on-part-behind, lent-part, base-within, base-beyond, refused-by-18}
 use Rattle.field.specs.declared.Field.{Field}
-use Rattle.btree_v2_header.specs.Header.{withBase}
 use Rattle.btree_v2_header.specs.declared.BTreeV2Header.{BTreeV2Header}
 use Rattle.btree_v2_collect.specs.Walk.{Counts, fine}
 use Rattle.btree_v2_collect.specs.Collect.{collectedAt}
 use Rattle.btree_v2_collect.proofs.Bases.{accepts-part}
-use Rattle.btree_v2_find.specs.Find.{descended, found, foundAt}
+use Rattle.btree_v2_find.specs.Find.{found, foundAt}
 use Rattle.btree_v2_find.specs.Answers.{foundCells}
 use Rattle.btree_v2_find.specs.Sorted.{NeverFall, recordSize, HasKey, FindsFirst}
 use Rattle.btree_v2_find.proofs.Sorted.{finds-first}
@@ -43,11 +42,6 @@ module _ (h : BTreeV2Header) (f : Field) (x : ℕ) where
   pub found-behind : (block file : List ℕ) → h .base ≡ length block → foundAt (block ++ file) h f x ≡ found file h f x
   unfolding foundAt
   found-behind block file e = rw (e, on-part-behind)
-
--- Finding in a part goes by the header's other figures.
-pub found-based : (file : List ℕ) (h : BTreeV2Header) (base : ℕ) (f : Field) (x : ℕ) → found file (withBase base h) f x ≡ found file h f x
-unfolding descended
-found-based file h base f x = refl
 
 -- The call, by the verdict on the base.
 module _ (file : List ℕ) (h : BTreeV2Header) (f : Field) (x : ℕ) (v : Verdict) (code : verdictOf v ≡ baseTest file (h .base)) where

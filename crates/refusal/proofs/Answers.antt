@@ -7,8 +7,8 @@ use mathlib.Core.List.{List, [], _∷_, _++_, append-assoc}
 use native.Mathlib.Nat.{add-comm}
 use native.Mathlib.Numerals.{add-one}
 use native.Mathlib.Omega.{arith}
-use lib.ListN.{length, take, replicate, length-take, length-append, length-replicate, replicate-append-replicate}
-use lib.Seq.{take-append-add, take-append-le, take-take, take-at}
+use lib.ListN.{length, getD, take, replicate, length-take, length-append, length-replicate, replicate-append-replicate}
+use lib.Seq.{take-append-add, take-append-le, take-take, take-at, take-suc, take-all}
 use Rattle.refusal.specs.declared.Refusal.{Refusal}
 use Rattle.refusal.specs.declared.Refusal.the-variants.{UnexpectedEof, InvalidBTreeV2Signature, InvalidBTreeV2Version, InvalidOffsetSize, InvalidLengthSize, ChecksumMismatch, InvalidNodeSize, ZeroRecordSize, TooManyRecords}
 use Rattle.refusal.specs.declared.Refusal.the-variants.{LevelHoldsNone, SubtreeTooThin, RecordBufferLength, CountAboveLengthSize, AddressAboveOffsetSize, OutputTooShort, DepthAboveLimit, InvalidKeyField, BaseBeyondFile}
@@ -47,6 +47,12 @@ pub cells-front : (k : ℕ) (a : Answer) → take k (cells (suc k) a) ≡ cells 
 unfolding cells
 cells-front k (accepted figures) = let few : k ≤ suc k = omega arith in rw (take-take k (suc k) _ few) (one-more k (0 ∷ figures))
 cells-front k (refused number values) = let few : k ≤ suc k = omega arith in rw (take-take k (suc k) _ few) (one-more k (number ∷ values))
+
+-- One number more is the numbers and that one behind them.
+pub cells-snoc : (k : ℕ) (a : Answer) → cells k a ++ (getD (cells (suc k) a) k 0 ∷ []) ≡ cells (suc k) a
+cells-snoc k a =
+    let long : length (cells (suc k) a) ≡ suc k = length-cells (suc k) a in
+    rw (← cells-front k a, ← take-suc (cells (suc k) a) k 0 (omega arith), take-all (suc k) (cells (suc k) a) (omega arith))
 
 pub cells-refused : (k number : ℕ) (values : List ℕ) (n : ℕ) → k ≡ suc (length values) + n
     → cells k (refused number values) ≡ (number ∷ values) ++ replicate n 0

@@ -1,4 +1,4 @@
--- `btree_v2_find`: the figures, and base 0 behind them.
+-- `btree_v2_find`: of seven figures the base is 0.
 use Rattle.btree_v2.proofs.Figures.{find-whole}
 use borrow.Author.Needs.{needs}
 use Rattle.btree_v2.proofs.btree_v2_find.Statement.{statement}
@@ -8,9 +8,5 @@ pub btree-v2-find-spec : {M : Type 1} → statement M
 btree-v2-find-spec =
     tie.close
     (tie.spec
-    (λ c. search needs) (λ c. search needs) (λ c. search needs) (λ c. search needs) (λ c. search needs)
-    (λ c. search needs) (λ c. search needs) (λ c κs. search needs)
-    (λ c.
-    let built = c .before .before .before in
-    let entry = built .before .before .before .before .before .before .before .before in
-    find-whole _ _ _ (entry .args .header .now) _ (c .btree-v2-find-at .ensures)))
+    (λ c κs. search needs)
+    (λ c. find-whole _ _ _ (c .before .before .before .before .args .header .now) _ (c .find-told .ensures) (search needs)))

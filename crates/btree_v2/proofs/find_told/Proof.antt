@@ -1,11 +1,11 @@
--- `btree_v2_find_at` puts what finding answers of the header that the figures tell.
+-- `find_told` puts what finding answers of the header that the figures tell.
 use Rattle.btree_v2.proofs.Figures.{find-told}
 use borrow.Author.Needs.{needs}
-use Rattle.btree_v2.proofs.btree_v2_find_at.Statement.{statement}
-use Rattle.btree_v2.proofs.btree_v2_find_at.Tie as tie
+use Rattle.btree_v2.proofs.find_told.Statement.{statement}
+use Rattle.btree_v2.proofs.find_told.Tie as tie
 
-pub btree-v2-find-at-spec : {M : Type 1} → statement M
-btree-v2-find-at-spec =
+pub find-told-spec : {M : Type 1} → statement M
+find-told-spec =
     tie.close
     (tie.spec
     (λ c κs. search needs) (λ c κs. search needs) (λ c κs. search needs)
