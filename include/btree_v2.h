@@ -126,7 +126,7 @@ enum { BTREE_V2_PARSE_BASE = 8, BTREE_V2_PARSE_AT_PLACES = 9 };
  * The functions whose names end in _at read a file that has a block of other bytes in front, as
  * long as the base. Of the part of the file from the base on they answer what the function of the
  * same name without _at answers of a file that is this part: places and addresses count from the
- * base, and so do both figures of BTREE_V2_FILE_ENDS_EARLY. A base beyond the file's length is
+ * base, and the figures of BTREE_V2_FILE_ENDS_EARLY are those of the part. A base beyond the file's length is
  * refused, before all else, by 18; one that is the file's length is not. With base 0 both answer
  * the same.
  *

@@ -1,17 +1,21 @@
 -- The header that a C caller's figures tell, and the functions without a base by those with one.
-use mathlib.Core.Path.{_≡_, sym, ap, _∙_}
+use mathlib.Core.Path.{_≡_, refl, sym, _∙_}
 use mathlib.Core.List.{List, [], _∷_, _++_}
 use Prim.Native.Nat.{ℕ, _+_, _%_, _^_, _≤_, _<_}
 use native.Mathlib.Nat.{mod-eq-of-lt}
 use native.Mathlib.Omega.{arith}
-use lib.ListN.{length, getD, set, List·getD-eq-default}
+use lib.ListN.{length, getD, set, drop, List·getD-eq-default}
+use lib.Seq.{getD-drop}
+use Rattle.numbers.proofs.Numbers.{num-lt}
 use Rattle.numbers.specs.Places.{stored, put}
 use Rattle.numbers.proofs.Lists.{put-fits, length-stored, stored-whole, stored-snoc}
 use Rattle.refusal.specs.Answer.{Answer, cells}
 use Rattle.refusal.proofs.Answers.{length-cells, cells-snoc}
 use Rattle.field.specs.declared.Field.{Field}
 use Rattle.btree_v2_header.specs.declared.BTreeV2Header.{BTreeV2Header}
-use Rattle.btree_v2_header.specs.Header.{headerFigures}
+use Rattle.btree_v2_header.specs.Header.{headerFigures, headerAt, withBase}
+use Rattle.btree_v2_header.specs.Answers.{Parses}
+use Rattle.btree_v2_header.specs.declared.HeaderAnswer.the-variants as header
 use Rattle.btree_v2_collect.specs.Collect.{collected, collectedAt}
 use Rattle.btree_v2_collect.specs.Answers.{Ends}
 use Rattle.btree_v2_collect.specs.declared.Collected.{Collected}
@@ -32,6 +36,25 @@ pub record InRange (h : BTreeV2Header) : Type 0 where
 pub told-as-read : (h : BTreeV2Header) → InRange h → headerOf (headerFigures h ++ (h .base ∷ [])) (h .geometry .«offset_size») ≡ h
 told-as-read h r =
     rw (mod-eq-of-lt (r .treeType), mod-eq-of-lt (r .nodeSize), mod-eq-of-lt (r .recordSize), mod-eq-of-lt (r .depth), mod-eq-of-lt (r .rootRecords))
+
+-- So the header's answer carries the header to collecting and to finding: its figures, of a file of bytes, tell the header that was read, with
+-- the base that it was read with.
+in-range : (file : List ℕ) (base o ow lw : ℕ) → ((i : ℕ) → getD file i 0 < 256) → InRange (withBase base (headerAt file o ow lw))
+unfolding headerAt
+in-range file base o ow lw bytes =
+    record {
+      treeType = omega (arith, num-lt file (o + 5) 1 bytes);
+      nodeSize = omega (arith, num-lt file (o + 6) 4 bytes);
+      recordSize = omega (arith, num-lt file (o + 10) 2 bytes);
+      depth = omega (arith, num-lt file (o + 12) 2 bytes);
+      rootRecords = omega (arith, num-lt file (o + 16 + ow) 2 bytes);
+    }
+
+pub carried-on : (file : List ℕ) (base o ow lw : ℕ) (h : BTreeV2Header) → ((i : ℕ) → getD file i 0 < 256) → Parses file base o ow lw (header.Parsed h)
+    → headerOf (headerFigures h ++ (h .base ∷ [])) ow ≡ h
+unfolding headerAt
+carried-on file base o ow lw h bytes parses =
+    rw (parses .fields h refl) (told-as-read _ (in-range (drop base file) base o ow lw (λ i. rw (getD-drop base file i 0) (bytes (base + i)))))
 
 -- `base_of` and `header_of`.
 pub no-base : (figures : List ℕ) → length figures < 8 → 0 ≡ getD figures 7 0

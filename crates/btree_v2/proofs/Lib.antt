@@ -1,2 +1,2 @@
 -- The laws that the crate's proofs cite.
-mod Figures
+pub mod Figures

@@ -16,7 +16,7 @@ abbrev pub asked : ℕ → ℕ → Geometry → ℕ → ℕ → Request
 asked treeType n g lw start =
     record { «tree_type» = treeType; «record_count» = n; geometry = g; «length_size» = lw; start = start }
 
--- The header that a collecting goes by, and its base.
+-- The header that a collecting goes by.
 abbrev pub given : ℕ → Geometry → ℕ → ℕ → ℕ → ℕ → ℕ → BTreeV2Header
 given treeType g depth root rootRecords records base =
     record {

@@ -2,7 +2,8 @@
 use mathlib.Core.Path.{_≡_, refl, sym, _∙_}
 use mathlib.Core.Bool.{Bool, true, false}
 use mathlib.Core.List.{List, [], _++_}
-use Prim.Native.Nat.{ℕ, _-_, _≤_, _<_}
+use Prim.Native.Nat.{ℕ, _-_, _*_, _≤_, _<_, zero-le}
+use native.Mathlib.Nat.{zero-mul}
 use native.Mathlib.Omega.{arith}
 use lib.Dec.{leb}
 use lib.ListN.{length, drop}
@@ -13,21 +14,22 @@ use Rattle.refusal.specs.declared.Refusal.{Refusal}
 use Rattle.refusal.specs.declared.Verdict.{Verdict}
 use Rattle.refusal.specs.declared.Verdict.the-variants.{Accepted, Refused}
 use Rattle.read_checks.specs.Base.{onPart, baseTest}
-use Rattle.read_checks.proofs.Base.{on-part-within, on-part-beyond, on-part-whole, on-part-behind, lent-part, base-within, base-beyond, refused-by-18}
+use Rattle.read_checks.proofs.Base.{on-part-by, on-part-within, on-part-beyond, on-part-whole, on-part-behind, lent-part, base-within, base-beyond, refused-by-18}
 use Rattle.btree_v2_header.specs.Header.{withBase}
 use Rattle.btree_v2_header.specs.declared.BTreeV2Header.{BTreeV2Header}
 use Rattle.btree_v2_collect.specs.Walk.{Counts, fine, stopped, noCounts}
 use Rattle.btree_v2_collect.specs.Collect.{collected, collectedAt}
 use Rattle.btree_v2_collect.specs.Answers.{Ends}
-use Rattle.btree_v2_collect.specs.Collecting.{endedBy}
+use Rattle.btree_v2_collect.specs.Collecting.{nothingRead}
 use Rattle.btree_v2_collect.specs.declared.Collected.{Collected}
 use Rattle.btree_v2_collect.proofs.Calls.{ends-so}
+use Rattle.btree_v2_collect.proofs.Fronts.{runCounts, Fronted, stays, collected-fronted}
 
 module _ (h : BTreeV2Header) (out : List ℕ) where
   module _ (file : List ℕ) where
-    pub collected-within : h .base ≤ length file → collectedAt file h out ≡ collected (drop (h .base) file) h out
+    pub collected-in-part : h .base ≤ length file → collectedAt file h out ≡ collected (drop (h .base) file) h out
     unfolding collectedAt
-    collected-within within = on-part-within _ _ file (h .base) within
+    collected-in-part within = on-part-within _ _ file (h .base) within
 
     -- 18 comes before all else, an empty tree's acceptance too.
     pub collected-beyond : length file < h .base → collectedAt file h out ≡ stopped 18 [] noCounts out
@@ -58,6 +60,16 @@ accepts-part file h out c o e = by (leb (h .base) (length file)) refl e
     by true is f = record { within = leb-true (h .base) (length file) is; part = f }
     by false is f = let z : _≡_ {A = ℕ} 0 1 = cc in absurd (omega arith)
 
+-- Refused or not, with any base: whole records at the front of the output, within it, and no other byte changed.
+pub fronted-at : (file : List ℕ) (h : BTreeV2Header) (out : List ℕ) → Fronted (h .geometry .«record_size») 0 out (collectedAt file h out)
+unfolding collectedAt
+fronted-at file h out =
+    on-part-by _ _ file (h .base) (Fronted (h .geometry .«record_size») 0 out) (stays (h .geometry .«record_size») noCounts out)
+    (collected-fronted (drop (h .base) file) h out)
+
+pub within-at : (file : List ℕ) (h : BTreeV2Header) (out : List ℕ) → runCounts (collectedAt file h out) .records * h .geometry .«record_size» ≤ length out
+within-at file h out = fronted-at file h out .room (rw zero-mul zero-le)
+
 -- Collecting in a part goes by the header's other figures.
 pub collected-based : (file : List ℕ) (h : BTreeV2Header) (base : ℕ) (out : List ℕ) → collected file (withBase base h) out ≡ collected file h out
 unfolding collected
@@ -65,14 +77,14 @@ collected-based file h base out = refl
 
 -- The call, by the verdict on the base.
 module _ (file : List ℕ) (h : BTreeV2Header) (out : List ℕ) (v : Verdict) (code : verdictOf v ≡ baseTest file (h .base)) where
-  pub ends-beyond : (q : Refusal) → v ≡ Refused q → (r : Collected) → r ≡ endedBy v → Ends (collectedAt file h out) r out
+  pub ends-beyond : (q : Refusal) → v ≡ Refused q → (r : Collected) → r ≡ nothingRead v → Ends (collectedAt file h out) r out
   ends-beyond q e =
       ends-so v out _ (collected-beyond h out file (base-beyond file (h .base) v code q e) ∙ rw (e, refused-by-18 file (h .base) v code q e))
 
   pub ends-part : v ≡ Accepted → (r : Collected) (exit : List ℕ) → Ends (collected (part file (h .base) (length file - h .base)) h out) r exit
       → Ends (collectedAt file h out) r exit
   ends-part e r exit read =
-      rw (collected-within h out file (base-within file (h .base) v code e)) (rw (lent-part file (h .base)) at read)
+      rw (collected-in-part h out file (base-within file (h .base) v code e)) (rw (lent-part file (h .base)) at read)
 
 -- With base 0 the call ends as before.
 pub ends-whole : (file : List ℕ) (h : BTreeV2Header) (out : List ℕ) (r : Collected) (exit : List ℕ) → h .base ≡ 0

@@ -31,7 +31,7 @@ use Rattle.refusal.specs.declared.Verdict.the-variants.{Accepted, Refused}
 use Rattle.btree_v2_collect.specs.declared.Tally.{Tally}
 use Rattle.btree_v2_collect.specs.declared.Collected.{Collected}
 use Rattle.btree_v2_collect.specs.Answers.{Ends}
-use Rattle.btree_v2_collect.specs.Collecting.{countsOf, tallyOf, endedBy, runOf, saturatedRun, Readable, RootRead, Walked}
+use Rattle.btree_v2_collect.specs.Collecting.{countsOf, tallyOf, nothingRead, runOf, saturatedRun, Readable, RootRead, Walked}
 use Rattle.btree_v2_collect.proofs.Holding.{saturated-saturated}
 use Rattle.node_info.specs.declared.Geometry.{Geometry}
 
@@ -75,18 +75,18 @@ walked-ends g x v t o walked r e small =
     )
 
 -- Nothing is read, and the verdict is all there is to tell.
-pub ends-so : (v : Verdict) (o : List ℕ) (x : Run) → x ≡ ifPassed (verdictOf v) noCounts o (fine noCounts o) → (r : Collected) → r ≡ endedBy v → Ends x r o
+pub ends-so : (v : Verdict) (o : List ℕ) (x : Run) → x ≡ ifPassed (verdictOf v) noCounts o (fine noCounts o) → (r : Collected) → r ≡ nothingRead v → Ends x r o
 unfolding runCells
 ends-so Accepted o x e r is = rw (e, is) (refl, refl)
 ends-so (Refused q) o x e r is = rw (e, is, refused-is q .2) (refl, refl)
 
 -- A tree without records, as `empty` says, and one that the tests before the root refuse or pass.
 module _ (file : List ℕ) (h : BTreeV2Header) (o : List ℕ) (empty : Bool) (says : empty ≡ noRecords (h .«total_records») (h .«num_records_in_root»)) where
-  pub no-records : empty ≡ true → (r : Collected) → r ≡ endedBy Accepted → Ends (collected file h o) r o
+  pub no-records : empty ≡ true → (r : Collected) → r ≡ nothingRead Accepted → Ends (collected file h o) r o
   no-records e = ends-so Accepted o _ (collected-empty file h o (sym says ∙ e))
 
   pub root-refused : empty ≡ false → (v : Verdict) → verdictOf v ≡ rootTest (h .geometry .«record_size») (h .depth) → (q : Refusal) → v ≡ Refused q
-      → (r : Collected) → r ≡ endedBy v → Ends (collected file h o) r o
+      → (r : Collected) → r ≡ nothingRead v → Ends (collected file h o) r o
   root-refused some v tested q e = ends-so v o _ (collected-root file h o (sym says ∙ some) ∙ rw (← tested, e, refused-is q .2))
 
 pub root-read : (h : BTreeV2Header) (empty : Bool) → empty ≡ noRecords (h .«total_records») (h .«num_records_in_root») → empty ≡ false

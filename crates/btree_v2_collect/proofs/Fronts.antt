@@ -78,7 +78,7 @@ module _ (rs : ℕ) where
       }
   and-then {r = stopped number values c o1} h f = h
 
-  stays : {number : ℕ} {values : List ℕ} (c : Counts) (o : List ℕ) → Fronted (c .records) o (stopped number values c o)
+  pub stays : {number : ℕ} {values : List ℕ} (c : Counts) (o : List ℕ) → Fronted (c .records) o (stopped number values c o)
   stays c o = record { more = le-refl (c .records); room = λ h. h; kept = kept-same (c .records * rs) o }
 
   if-passed : (x : Answer) (c : Counts) {o : List ℕ} {r : Run} → Fronted (c .records) o r → Fronted (c .records) o (ifPassed x c o r)

@@ -31,9 +31,9 @@ collected file h out =
     (ifPassed (rootTest (g .«record_size») (h .depth)) noCounts out
     (nodeRun file g (collectTests file g) (h .depth) (h .«root_node_address») (h .«num_records_in_root») noCounts out))
 
--- Collecting it out of the part of the file from the header's base on.
+-- Collecting the tree of a header out of the part of the file from the header's base on; 18 where there is no such part.
 unfoldable pub collectedAt : List ℕ → BTreeV2Header → List ℕ → Run
-collectedAt file h out = onPart file (h .base) (stopped 18 [] noCounts out) (λ part. collected part h out)
+collectedAt file h out = onPart file (h .base) (stopped 18 [] noCounts out) (λ p. collected p h out)
 
 -- A walk's end as the call gives it: number and two values, and the four counts, each saturated at 2^64 - 1.
 abbrev pub countCells : Counts → List ℕ

@@ -27,8 +27,8 @@ abbrev pub tallyOf : List ℕ → Tally
 tallyOf t = record { records = getD t 0 0; leaves = getD t 1 0; internals = getD t 2 0; «internal_records» = getD t 3 0 }
 
 -- The answer of a call that ends with this verdict before it has read anything.
-abbrev pub endedBy : Verdict → Collected
-endedBy v = record { verdict = v; tally = record { records = 0; leaves = 0; internals = 0; «internal_records» = 0 } }
+abbrev pub nothingRead : Verdict → Collected
+nothingRead v = record { verdict = v; tally = record { records = 0; leaves = 0; internals = 0; «internal_records» = 0 } }
 
 -- How far a walk has come by an answer, a tally and an output.
 abbrev pub runOf : Verdict → List ℕ → List ℕ → Run

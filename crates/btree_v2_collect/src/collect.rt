@@ -7,7 +7,7 @@ ghost use Rattle.refusal.specs.Answer.{accepted, verdictOf};
 ghost use Rattle.btree_v2_collect.specs.Walk.{oneLeaf, oneInternal, oneInternalRecord, putRecords, ownRecordRun};
 ghost use Rattle.btree_v2_collect.specs.Collect.{collectTests, collected, collectedAt};
 ghost use Rattle.btree_v2_collect.specs.Answers.{Ends};
-ghost use Rattle.btree_v2_collect.specs.Collecting.{countsOf, tallyOf, endedBy, saturatedCounts, Readable, Within, NodeThere, ChildAt, ChildrenLeft, RootRead, Walked, nodeWalk, childrenWalk};
+ghost use Rattle.btree_v2_collect.specs.Collecting.{countsOf, tallyOf, nothingRead, saturatedCounts, Readable, Within, NodeThere, ChildAt, ChildrenLeft, RootRead, Walked, nodeWalk, childrenWalk};
 use crate::Collected;
 use crate::Tally;
 use btree_v2_header::BTreeV2Header;
@@ -316,7 +316,7 @@ fn collect_root(file: &[u8], header: BTreeV2Header, output: &mut [u8]) -> Collec
 
 // A call that ends before it has read anything.
 fn ended(verdict: Verdict) -> Collected
-    ensures { λ r. ⌜ r ≡ endedBy verdict ⌝ }
+    ensures { λ r. ⌜ r ≡ nothingRead verdict ⌝ }
 {
     let tally = Tally {
         records: 0,

@@ -15,7 +15,7 @@ use Rattle.btree_v2_header.specs.declared.BTreeV2Header.{BTreeV2Header}
 use Rattle.btree_v2_collect.specs.Walk.{Counts, fine}
 use Rattle.btree_v2_collect.specs.Collect.{collectedAt}
 use Rattle.btree_v2_collect.proofs.Bases.{accepts-part}
-use Rattle.btree_v2_find.specs.Find.{found, foundAt}
+use Rattle.btree_v2_find.specs.Find.{lastWith, placeFound, findCells, found, foundAt}
 use Rattle.btree_v2_find.specs.Answers.{foundCells}
 use Rattle.btree_v2_find.specs.Sorted.{NeverFall, recordSize, HasKey, FindsFirst}
 use Rattle.btree_v2_find.proofs.Sorted.{finds-first}
@@ -24,13 +24,13 @@ use Rattle.btree_v2_find.specs.declared.Found.{Found}
 
 module _ (h : BTreeV2Header) (f : Field) (x : ℕ) where
   module _ (file : List ℕ) where
-    pub found-within : h .base ≤ length file → foundAt file h f x ≡ found (drop (h .base) file) h f x
+    pub found-in-part : h .base ≤ length file → foundAt file h f x ≡ found (drop (h .base) file) h f x
     unfolding foundAt
-    found-within within = on-part-within _ _ file (h .base) within
+    found-in-part within = on-part-within _ _ file (h .base) within
 
     -- 18 comes before all else, an empty tree's acceptance too.
-    pub found-beyond : length file < h .base → foundAt file h f x ≡ cells 6 (refused 18 [])
-    unfolding foundAt
+    pub found-beyond : length file < h .base → foundAt file h f x ≡ 18 ∷ 0 ∷ 0 ∷ 0 ∷ 0 ∷ 0 ∷ []
+    unfolding foundAt findCells cells placeFound lastWith
     found-beyond beyond = on-part-beyond _ _ file (h .base) beyond
 
     -- With base 0 all is as before.
@@ -50,10 +50,10 @@ module _ (file : List ℕ) (h : BTreeV2Header) (f : Field) (x : ℕ) (v : Verdic
   base-refused q e r is =
       rw (found-beyond h f x file (base-beyond file (h .base) v code q e), is .verdict, is .nodes, is .place, e, refused-by-18 file (h .base) v code q e)
 
-  pub found-in-part : v ≡ Accepted → (r : Found) → foundCells r ≡ found (part file (h .base) (length file - h .base)) h f x
+  pub finds-in-part : v ≡ Accepted → (r : Found) → foundCells r ≡ found (part file (h .base) (length file - h .base)) h f x
       → foundCells r ≡ foundAt file h f x
-  found-in-part e r is =
-      rw (found-within h f x file (base-within file (h .base) v code e)) (rw (lent-part file (h .base)) at is)
+  finds-in-part e r is =
+      rw (found-in-part h f x file (base-within file (h .base) v code e)) (rw (lent-part file (h .base)) at is)
 
 -- A tree in order behind a block: where collecting accepts, finding in the part has document 02's answer.
 pub finds-first-at : (file : List ℕ) (h : BTreeV2Header) (f : Field) (x : ℕ) (out o : List ℕ) (c : Counts) → collectedAt file h out ≡ fine c o
@@ -63,4 +63,4 @@ finds-first-at file h f x out o c e = finds-first (drop (h .base) file) h f x ou
 -- And finding in the file is finding in the part.
 pub found-in-order : (file : List ℕ) (h : BTreeV2Header) (f : Field) (x : ℕ) (out o : List ℕ) (c : Counts) → collectedAt file h out ≡ fine c o
     → foundAt file h f x ≡ found (drop (h .base) file) h f x
-found-in-order file h f x out o c e = found-within h f x file (accepts-part file h out c o e .within)
+found-in-order file h f x out o c e = found-in-part h f x file (accepts-part file h out c o e .within)

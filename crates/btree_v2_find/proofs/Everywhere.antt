@@ -58,7 +58,7 @@ module _ (file : List ℕ) (f : Field) (x : ℕ) (r : Descent) where
     answer-only e = last-only (numberAt file f) x (r .bounds) (rw fine at e)
 
 -- A record of rs bytes at place p is in the file, and has the key.
-pub record FoundAt (file : List ℕ) (rs : ℕ) (f : Field) (x p : ℕ) : Type 0 where
+pub record FoundThere (file : List ℕ) (rs : ℕ) (f : Field) (x p : ℕ) : Type 0 where
   pub there : p + rs ≤ length file
   pub key : numberAt file f p ≡ x
 
@@ -131,7 +131,7 @@ module _ (number : ℕ) (values : List ℕ) where
     descent-refused (suc d) a n =
         past-test (RefusedDown (suc d) a n) _ (internal-plain file _ _ _ a n) here (λ passes e. below passes (descent-refused d _ _ e))
 
--- The call.
+-- Finding in a file, or in the part of one from the header's base on.
 module _ (file : List ℕ) (h : BTreeV2Header) (f : Field) (x : ℕ) where
   abbrev g : Geometry
   g = h .geometry
@@ -163,7 +163,7 @@ module _ (file : List ℕ) (h : BTreeV2Header) (f : Field) (x : ℕ) where
       → descended file h f x .nodes ≡ h .depth + 1
   nodes-accepted some = root-holds some .all
 
-  -- The call's six numbers: of an empty tree, and of one with records that is accepted.
+  -- Its six numbers: of an empty tree, and of one with records that is accepted.
   pub empty-cells : noRecords (h .«total_records») (h .«num_records_in_root») ≡ true
       → found file h f x ≡ 0 ∷ 0 ∷ 0 ∷ 0 ∷ 0 ∷ 0 ∷ []
   unfolding findCells cells placeFound lastWith
@@ -196,12 +196,12 @@ module _ (file : List ℕ) (h : BTreeV2Header) (f : Field) (x : ℕ) where
   pub bounds-there : AllOf (λ p. p + recordSize h ≤ length file) (descended file h f x .bounds)
   bounds-there = by-root (λ r. AllOf (λ p. p + recordSize h ≤ length file) (r .bounds)) all-none (λ r t. t .there)
 
-  pub found-there : (p : ℕ) → answered file h f x ≡ p ∷ [] → FoundAt file (recordSize h) f x p
+  pub found-there : (p : ℕ) → answered file h f x ≡ p ∷ [] → FoundThere file (recordSize h) f x p
   unfolding placeFound
   found-there p e =
       all-head (rw e at (by (descended file h f x .ends) (last-has (numberAt file f) x (λ p there key. record { there = there; key = key }) bounds-there)))
     where
-      by : (a : Answer) {places : List ℕ} → AllOf (FoundAt file (recordSize h) f x) places → AllOf (FoundAt file (recordSize h) f x) (ifAccepted a places [])
+      by : (a : Answer) {places : List ℕ} → AllOf (FoundThere file (recordSize h) f x) places → AllOf (FoundThere file (recordSize h) f x) (ifAccepted a places [])
       by (accepted figures) all = all
       by (refused number values) all = all-none
 

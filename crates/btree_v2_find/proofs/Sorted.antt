@@ -162,7 +162,7 @@ finds-first file h f x out o c e field never =
         let counts : noCounts ≡ c = cc in rw (← counts) (answers-none file h f x empty o)
     by false some = answers-some file h f x some (field some) out o c e never
 
--- The call's six numbers in a tree with records: it accepts, behind one node of each level, with the place of record i, the first with the
+-- Finding's six numbers in a tree with records: it accepts, behind one node of each level, with the place of record i, the first with the
 -- key, or with none.
 module _ (file : List ℕ) (h : BTreeV2Header) (f : Field) (x : ℕ) (out o : List ℕ) (c : Counts) (e : collected file h out ≡ fine c o) (field : HasKey h f)
     (never : NeverFall o (recordSize h) f (c .records)) (some : noRecords (h .«total_records») (h .«num_records_in_root») ≡ false) where

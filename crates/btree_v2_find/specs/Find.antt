@@ -98,9 +98,10 @@ placeCells (p ∷ ps) = 1 ∷ p ∷ []
 unfoldable pub findCells : List ℕ → Field → ℕ → Descent → List ℕ
 findCells file f x r = cells 3 (r .ends) ++ (r .nodes ∷ placeCells (placeFound file f x r))
 
--- What finding answers, as numbers; and out of the part of the file from the header's base on, in which the place is counted too.
+-- What finding answers, as numbers.
 abbrev pub found : List ℕ → BTreeV2Header → Field → ℕ → List ℕ
 found file h f x = findCells file f x (descended file h f x)
 
+-- Finding in the part of the file from the header's base on, in which the place is counted too; 18 where there is no such part.
 unfoldable pub foundAt : List ℕ → BTreeV2Header → Field → ℕ → List ℕ
-foundAt file h f x = onPart file (h .base) (cells 6 (refused 18 [])) (λ part. found part h f x)
+foundAt file h f x = onPart file (h .base) (findCells file f x (ended (refused 18 []))) (λ p. found p h f x)

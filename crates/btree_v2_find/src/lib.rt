@@ -15,7 +15,7 @@ use node_info::NodeInfo;
 use refusal::Refusal;
 use refusal::Verdict;
 
-// The place of a record in the file, where there is one.
+// The place of a record in the part of the file from the header's base on, where there is one.
 pub enum Place {
     Nowhere,
     At(u64),

@@ -18,9 +18,9 @@ use Rattle.btree_v2_header.specs.declared.HeaderAnswer.{HeaderAnswer}
 use Rattle.btree_v2_header.specs.declared.HeaderAnswer.the-variants as header
 
 module _ (file : List ℕ) (base o ow lw : ℕ) where
-  pub parsed-within : base ≤ length file → parsedAt file base o ow lw ≡ carrying base (parsed (drop base file) o ow lw)
+  pub parsed-in-part : base ≤ length file → parsedAt file base o ow lw ≡ carrying base (parsed (drop base file) o ow lw)
   unfolding parsedAt
-  parsed-within h = on-part-within _ _ file base h
+  parsed-in-part h = on-part-within _ _ file base h
 
   -- 18 comes before all else.
   pub parsed-beyond : length file < base → parsedAt file base o ow lw ≡ refused 18 []
@@ -59,4 +59,4 @@ module _ (file : List ℕ) (base o ow lw : ℕ) (v : Verdict) (code : verdictOf 
       → Parses file base o ow lw r
   parses-part e r lent =
       let read : ParsesPart (drop base file) base o ow lw r = rw (lent-part file base) at lent in
-      record { answer = read .answer ∙ sym (parsed-within file base o ow lw (base-within file base v code e)); fields = read .fields }
+      record { answer = read .answer ∙ sym (parsed-in-part file base o ow lw (base-within file base v code e)); fields = read .fields }

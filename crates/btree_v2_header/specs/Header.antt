@@ -69,6 +69,6 @@ abbrev pub carrying : ℕ → Answer → Answer
 carrying base (accepted figures) = accepted (figures ++ (base ∷ []))
 carrying base (refused number values) = refused number values
 
--- The answer to reading the header at o of the part of the file from the base on.
+-- The answer to reading the header at o of the part of the file from the base on; 18 where there is no such part.
 unfoldable pub parsedAt : List ℕ → (base o ow lw : ℕ) → Answer
-parsedAt file base o ow lw = onPart file base (refused 18 []) (λ part. carrying base (parsed part o ow lw))
+parsedAt file base o ow lw = onPart file base (refused 18 []) (λ p. carrying base (parsed p o ow lw))

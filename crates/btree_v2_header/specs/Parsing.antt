@@ -13,10 +13,10 @@ use Rattle.btree_v2_header.specs.declared.BTreeV2Header.{BTreeV2Header}
 use Rattle.btree_v2_header.specs.declared.HeaderAnswer.{HeaderAnswer}
 use Rattle.btree_v2_header.specs.declared.HeaderAnswer.the-variants as header
 
--- r answers the reading of the header at o of a part of a file, and carries the base.
-pub record ParsesPart (part : List ℕ) (base o ow lw : ℕ) (r : HeaderAnswer) : Type 0 where
-  pub answer : headerAnswerOf r ≡ carrying base (parsed part o ow lw)
-  pub fields : (h : BTreeV2Header) → r ≡ header.Parsed h → h ≡ withBase base (headerAt part o ow lw)
+-- r answers the reading of the header at o of `file`, the part of a file from the base on, and carries the base.
+pub record ParsesPart (file : List ℕ) (base o ow lw : ℕ) (r : HeaderAnswer) : Type 0 where
+  pub answer : headerAnswerOf r ≡ carrying base (parsed file o ow lw)
+  pub fields : (h : BTreeV2Header) → r ≡ header.Parsed h → h ≡ withBase base (headerAt file o ow lw)
 
 -- Where the tests up to that of the offset size have passed.
 pub record Begun (file : List ℕ) (o ow : ℕ) : Type 0 where

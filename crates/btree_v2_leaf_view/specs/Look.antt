@@ -37,16 +37,16 @@ unfoldable pub recordExit : List ℕ → ℕ → ℕ → ℕ → ℕ → List �
 recordExit file rs a n i out =
     ifAccepted (recordAnswer file rs a n i out) (over (recordOf (lookBytes file rs a n) rs n i) out) out
 
--- The same of the part of the file from a base on.
+-- The same of the part of the file from a base on; 18, and nothing else, where there is no such part.
 module _ (file : List ℕ) (base : ℕ) where
   unfoldable pub lookTestAt : ℕ → ℕ → ℕ → Answer
-  lookTestAt rs a n = onPart file base (refused 18 []) (λ part. lookTest part rs a n)
+  lookTestAt rs a n = onPart file base (refused 18 []) (λ p. lookTest p rs a n)
 
   unfoldable pub lookBytesAt : ℕ → ℕ → ℕ → List ℕ
-  lookBytesAt rs a n = onPart file base [] (λ part. lookBytes part rs a n)
+  lookBytesAt rs a n = onPart file base [] (λ p. lookBytes p rs a n)
 
   unfoldable pub recordAnswerAt : ℕ → ℕ → ℕ → ℕ → List ℕ → Answer
-  recordAnswerAt rs a n i out = onPart file base (refused 18 []) (λ part. recordAnswer part rs a n i out)
+  recordAnswerAt rs a n i out = onPart file base (refused 18 []) (λ p. recordAnswer p rs a n i out)
 
   unfoldable pub recordExitAt : ℕ → ℕ → ℕ → ℕ → List ℕ → List ℕ
-  recordExitAt rs a n i out = onPart file base out (λ part. recordExit part rs a n i out)
+  recordExitAt rs a n i out = onPart file base out (λ p. recordExit p rs a n i out)

@@ -27,6 +27,15 @@ module _ {A : Type 0} (refusal : A) (read : List ℕ → A) where
     unfolding onPart
     on-part-beyond h = rw (lt-leb base (length file) h)
 
+    -- What holds of the refusal and of the part's reading holds of the reading.
+    pub on-part-by : (P : A → Type 0) → P refusal → P (read (drop base file)) → P (onPart file base refusal read)
+    unfolding onPart
+    on-part-by P stops goes = by (leb base (length file))
+      where
+        by : (t : Bool) → P (orElse t refusal (read (drop base file)))
+        by true = goes
+        by false = stops
+
   -- With base 0 the whole file is read.
   pub on-part-whole : (file : List ℕ) → onPart file 0 refusal read ≡ read file
   on-part-whole file = on-part-within file 0 (omega arith)

@@ -9,6 +9,6 @@ use Rattle.refusal.specs.Answer.{Answer, accepted, refused, orElse}
 unfoldable pub onPart : {A : Type 0} → List ℕ → ℕ → A → (List ℕ → A) → A
 onPart file base refusal read = orElse (leb base (length file)) refusal (read (drop base file))
 
--- Whether there is such a part; else 18.
+-- Refusal 18 where the base is beyond the file's length.
 abbrev pub baseTest : List ℕ → ℕ → Answer
-baseTest file base = onPart file base (refused 18 []) (λ part. accepted [])
+baseTest file base = onPart file base (refused 18 []) (λ p. accepted [])

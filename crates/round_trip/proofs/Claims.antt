@@ -9,7 +9,7 @@ use lib.ListN.{length, getD, take, drop, length-take, length-drop}
 use lib.Seq.{take-at, drop-at}
 use Rattle.numbers.specs.Numbers.{saturated, part}
 use Rattle.refusal.specs.declared.Refusal.{Refusal}
-use Rattle.refusal.specs.Answer.{accepted, refused, cells, verdictOf}
+use Rattle.refusal.specs.Answer.{Answer, accepted, refused, cells, verdictOf}
 use Rattle.refusal.proofs.Answers.{refused-is}
 use Rattle.plan.specs.declared.PlanAnswer.{PlanAnswer}
 use Rattle.plan.specs.declared.PlanAnswer.the-variants.{Planned}
@@ -22,10 +22,10 @@ use Rattle.format.specs.Bytes.{headerSize, address}
 use Rattle.format.specs.Request.{depthOf, treeOf, nodesOf, rootOf, rootRecordsOf, headerOf, imageOf}
 use Rattle.write_checks.specs.Writing.{written, headerExit, imageExit}
 use Rattle.numbers.specs.Places.{over}
-use Rattle.btree_v2_collect.specs.Walk.{Counts, fine, noCounts}
+use Rattle.btree_v2_collect.specs.Walk.{Counts, Run, fine, stopped, noCounts}
 use Rattle.btree_v2_header.specs.Header.{headerFigures, headerAt, withBase, carrying, parsed, parsedAt}
-use Rattle.btree_v2_header.proofs.Bases.{parsed-within}
-use Rattle.btree_v2_collect.proofs.Bases.{collected-within, collected-based}
+use Rattle.btree_v2_header.proofs.Bases.{parsed-in-part}
+use Rattle.btree_v2_collect.proofs.Bases.{collected-in-part, collected-based}
 use Rattle.btree_v2_collect.specs.Collect.{collected, collectedAt, runCells, runOutput, countCells}
 use Rattle.round_trip.specs.Return.{headerWritten, Returned}
 use Rattle.write_checks.proofs.Accepted.{Accepts, accepts, plan-accepted}
@@ -44,8 +44,20 @@ use Rattle.btree_v2_header.specs.Answers.{headerAnswerOf, Parses}
 use Rattle.btree_v2_collect.specs.Answers.{collectedCells}
 use Rattle.round_trip.specs.declared.RoundTrip.{RoundTrip}
 use Rattle.round_trip.specs.Nodes.{nodeRecords}
-use Rattle.round_trip.specs.ThreeCalls.{Lent, partOf, onHeader, onParsed, Collects, readBack, Holds, NodesCounted, Complete, Answered}
+use Rattle.round_trip.specs.ThreeCalls.{Lent, partOf, onParsed, Collects, Holds, NodesCounted, Complete, Answered}
 use Rattle.round_trip.proofs.Roots.{root-address, root-records}
+
+-- Collecting by the header reader's definition: the tree of the header there, or its refusal.
+abbrev onHeader : Answer → BTreeV2Header → List ℕ → List ℕ → Run
+onHeader (accepted figures) h file output = collectedAt file h output
+onHeader (refused number values) h file output = stopped number values noCounts output
+
+-- The header reader at the place, and the collector on its answer.
+readBack : Request → Lent → Run
+readBack q s =
+    let ow = q .geometry .«offset_size» in
+    let lw = q .«length_size» in
+    onHeader (parsedAt (s .file) (s .base) (s .place) ow lw) (withBase (s .base) (headerAt (partOf s) (s .place) ow lw)) (s .file) (s .output)
 
 -- An accepted walk's cells: the verdict accepts, and each count is the walk's, saturated.
 record CellsSay (v : Verdict) (t : Tally) (c : Counts) : Type 0 where
@@ -129,7 +141,7 @@ module _ (q : Request) (p : BTreeV2Plan) (s : Lent) (ok : written q (s .records)
   header-back : parsedAt (s .file) (s .base) (s .place) (q .geometry .«offset_size») (q .«length_size»)
       ≡ accepted (headerFigures (headerWritten q) ++ (s .base ∷ []))
   header-back =
-      parsed-within (s .file) (s .base) (s .place) _ _ within
+      parsed-in-part (s .file) (s .base) (s .place) _ _ within
       ∙ ap (carrying (s .base)) (returns-header q (s .records) (s .header) (s .image) (figuresOf p) ok small (partOf s) (s .place) header-stands)
 
   header-there : headerAt (partOf s) (s .place) (q .geometry .«offset_size») (q .«length_size») ≡ headerWritten q
@@ -147,7 +159,7 @@ module _ (q : Request) (p : BTreeV2Plan) (s : Lent) (ok : written q (s .records)
       unfolding readBack
       whole =
           rw (header-back, header-there)
-          (collected-within (withBase (s .base) (headerWritten q)) (s .output) (s .file) within ∙ collected-based (partOf s) (headerWritten q) (s .base) (s .output) ∙ ends)
+          (collected-in-part (withBase (s .base) (headerWritten q)) (s .output) (s .file) within ∙ collected-based (partOf s) (headerWritten q) (s .base) (s .output) ∙ ends)
 
       tells : CellsSay (r .collected .verdict) (r .collected .tally) c
       unfolding runCells
@@ -202,7 +214,7 @@ module _ (q : Request) (p : BTreeV2Plan) (s : Lent) (ok : written q (s .records)
             atMost = rw (same .nodes) (b .atMost);
           })
 
-    pub complete : Complete q p s r o
+    complete : Complete q p s r o
     complete = ⊎-elim none-complete some-complete (eq-zero-or-pos (q .«record_count»))
 
 -- `collect_parsed`, by the header reader's answer.
@@ -234,8 +246,8 @@ module _ (q : Request) (s : Lent) (x : PlanAnswer) (h i : List ℕ) (p : HeaderA
         written = wrote;
         headerLeft = hl;
         imageLeft = il;
-        parsed = parses .answer;
-        collected = run;
+        parsed = parses;
+        collected = collects;
         complete = λ plan e holds long. complete q plan s (sym wrote ∙ ap planAnswerOf e) small h i hl il holds long _ o (parses .answer) run;
       }
 

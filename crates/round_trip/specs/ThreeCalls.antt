@@ -5,7 +5,7 @@ use mathlib.Core.List.{List, [], _∷_}
 use Prim.Native.Nat.{ℕ, _+_, _-_, _*_, _≤_}
 use lib.ListN.{length, take, drop}
 use Rattle.numbers.specs.Numbers.{part}
-use Rattle.refusal.specs.Answer.{Answer, accepted, refused, refusalOf, verdictOf}
+use Rattle.refusal.specs.Answer.{accepted, refusalOf, verdictOf}
 use Rattle.plan.specs.declared.BTreeV2Plan.{BTreeV2Plan}
 use Rattle.plan.specs.declared.PlanAnswer.the-variants.{Planned}
 use Rattle.plan.specs.Planned.{planAnswerOf}
@@ -13,14 +13,12 @@ use Rattle.write_checks.specs.Writing as writer
 use Rattle.format.specs.declared.Request.{Request}
 use Rattle.format.specs.Bytes.{headerSize, address}
 use Rattle.write_checks.specs.Writing.{headerExit, imageExit}
-use Rattle.btree_v2_collect.specs.Walk.{Run, fine, stopped, ifPassed, noCounts}
-use Rattle.btree_v2_header.specs.Header as reader
+use Rattle.btree_v2_collect.specs.Walk.{Run, fine, ifPassed, noCounts}
 use Rattle.btree_v2_collect.specs.Collect as collector
-use Rattle.btree_v2_header.specs.declared.BTreeV2Header.{BTreeV2Header}
 use Rattle.btree_v2_header.specs.declared.HeaderAnswer.{HeaderAnswer}
 use Rattle.btree_v2_header.specs.declared.HeaderAnswer.the-variants as header
 use Rattle.btree_v2_collect.specs.Collect.{runCells, runOutput}
-use Rattle.btree_v2_header.specs.Answers.{headerAnswerOf}
+use Rattle.btree_v2_header.specs.Answers.{headerAnswerOf, Parses}
 use Rattle.btree_v2_collect.specs.declared.Collected.{Collected}
 use Rattle.btree_v2_collect.specs.declared.Tally.{Tally}
 use Rattle.btree_v2_collect.specs.Answers.{collectedCells}
@@ -47,11 +45,6 @@ abbrev pub partOf : Lent → List ℕ
 partOf s = drop (s .base) (s .file)
 
 -- Collecting the tree of the header that was read; a refused header ends the reading with its refusal.
-abbrev pub onHeader : Answer → BTreeV2Header → List ℕ → List ℕ → Run
-onHeader (accepted figures) h file output = collector.collectedAt file h output
-onHeader (refused number values) h file output = stopped number values noCounts output
-
--- The same by the header reader's own answer.
 abbrev pub onParsed : HeaderAnswer → List ℕ → List ℕ → Run
 onParsed (header.Parsed h) file output = collector.collectedAt file h output
 onParsed (header.Refused r) file output = ifPassed (refusalOf r) noCounts output (fine noCounts output)
@@ -60,13 +53,6 @@ onParsed (header.Refused r) file output = ifPassed (refusalOf r) noCounts output
 pub record Collects (run : Run) (c : Collected) (outputLast : List ℕ) : Type 0 where
   pub cells : collectedCells c ≡ runCells run
   pub output : outputLast ≡ runOutput run
-
--- The header reader at the place, and the collector on its answer.
-unfoldable pub readBack : Request → Lent → Run
-readBack q s =
-    let ow = q .geometry .«offset_size» in
-    let lw = q .«length_size» in
-    onHeader (reader.parsedAt (s .file) (s .base) (s .place) ow lw) (reader.withBase (s .base) (reader.headerAt (partOf s) (s .place) ow lw)) (s .file) (s .output)
 
 -- A file, or the part of one, holds at the place the header's bytes that the write left, and from start on the bytes of its nodes, NS for each
 -- of the nodes that it answered.
@@ -107,7 +93,7 @@ pub record Answered (q : Request) (s : Lent) (r : RoundTrip) (headerLast imageLa
   pub written : planAnswerOf (r .written) ≡ writer.written q (s .records) (s .header) (s .image)
   pub headerLeft : headerLast ≡ headerExit q (s .records) (s .header) (s .image)
   pub imageLeft : imageLast ≡ imageExit q (s .records) (s .header) (s .image)
-  pub parsed : headerAnswerOf (r .header) ≡ reader.parsedAt (s .file) (s .base) (s .place) (q .geometry .«offset_size») (q .«length_size»)
-  pub collected : Collects (readBack q s) (r .collected) outputLast
+  pub parsed : Parses (s .file) (s .base) (s .place) (q .geometry .«offset_size») (q .«length_size») (r .header)
+  pub collected : Collects (onParsed (r .header) (s .file) (s .output)) (r .collected) outputLast
   pub complete : (p : BTreeV2Plan) → r .written ≡ Planned p → Holds q p (partOf s) (s .place) headerLast imageLast
       → q .«record_count» * q .geometry .«record_size» ≤ length (s .output) → Complete q p s r outputLast
