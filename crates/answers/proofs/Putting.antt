@@ -1,11 +1,15 @@
 -- What stands in the caller's array, in the forms in which the functions' proofs have it.
 use mathlib.Core.Path.{_≡_, refl, sym, ap, _∙_}
+use mathlib.Core.Bool.{Bool, true, false}
 use mathlib.Core.List.{List, [], _∷_, _++_}
 use Prim.Native.Nat.{ℕ, suc, _+_, _≤_, _<_}
 use native.Mathlib.Omega.{arith}
+use lib.Dec.{leb}
 use lib.ListN.{length, getD, length-append}
+use borrow.Author.Tests.{leb-true}
+use Rattle.numbers.specs.Numbers.{pick}
 use Rattle.numbers.specs.Places.{stored, put}
-use Rattle.numbers.proofs.Lists.{put-fits, put-not}
+use Rattle.numbers.proofs.Lists.{put-fits, put-not, length-stored}
 use Rattle.refusal.specs.declared.Refusal.{Refusal}
 use Rattle.refusal.specs.Answer.{refused, refusalOf, verdictOf, cells}
 use Rattle.refusal.proofs.Answers.{length-cells, refused-is, code-more}
@@ -54,6 +58,14 @@ module _ (a : List ℕ) (p : HeaderAnswer) where
   pub header-refused : (cause : Refusal) {n x y : ℕ} {o : List ℕ} → 8 ≤ length a → p ≡ header.Refused cause → n ∷ x ∷ y ∷ [] ≡ cells 3 (refusalOf cause)
       → o ≡ stored a 0 (n ∷ x ∷ y ∷ 0 ∷ 0 ∷ 0 ∷ 0 ∷ 0 ∷ []) → o ≡ put a 0 (cells 8 (headerAnswerOf p))
   header-refused cause l e code is = over-front l is (rw e (code-more cause 5 code))
+
+pub header-length : (a : List ℕ) (p : HeaderAnswer) {o : List ℕ} → o ≡ put a 0 (cells 8 (headerAnswerOf p)) → length o ≡ length a
+unfolding put
+header-length a p e = rw e (by (leb (0 + length (cells 8 (headerAnswerOf p))) (length a)) refl)
+  where
+    by : (t : Bool) → leb (0 + length (cells 8 (headerAnswerOf p))) (length a) ≡ t → length (pick t (stored a 0 (cells 8 (headerAnswerOf p))) a) ≡ length a
+    by true h = length-stored a 0 (cells 8 (headerAnswerOf p)) (leb-true _ _ h)
+    by false h = refl
 
 pub carried-parsed : {p : HeaderAnswer} {h : BTreeV2Header} → p ≡ header.Parsed h → h .base ≡ getD (cells 9 (headerAnswerOf p)) 8 0
 unfolding cells

@@ -15,6 +15,7 @@ fn numbers(answer: HeaderAnswer) -> [u64; 9]
 {
     let mut numbers = [0; 9];
     answers::put_header(&mut numbers, answer);
+    numbers[8] = answers::carried_base(answer);
     numbers
 }
 
