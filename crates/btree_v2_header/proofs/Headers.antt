@@ -10,7 +10,7 @@ use mir.Val.{Fits}
 use borrow.Author.Tests.{le-leb, ne-eqb}
 use Rattle.numbers.specs.Numbers.{part, num, unle, fieldSize}
 use Rattle.numbers.proofs.Lists.{part-cons}
-use Rattle.numbers.proofs.Numbers.{num-add, field-size-le}
+use Rattle.numbers.proofs.Numbers.{num-add, field-size-le, field-size-4, field-size-8}
 use Rattle.refusal.specs.declared.Refusal.{Refusal}
 use Rattle.refusal.specs.Answer.{Answer, accepted, refused, refusalOf, orElse, verdictOf}
 use Rattle.format.specs.Bytes.{headerSignature, headerSize}
@@ -37,6 +37,28 @@ num-2 l p h = rw (part-cons l p 1 0 (omega arith), part-cons l (p + 1) 0 0 (omeg
 
 pub num-4 : (l : List ℕ) (p x y : ℕ) → p + 4 ≤ length l → x ≡ num l p 2 → y ≡ num l (p + 2) 2 → x + 65536 * y ≡ num l p 4
 num-4 l p x y h a b = rw (num-add l p 2 2 (omega arith), a, b)
+
+-- `read_sized`: an offset or a length has two, four or eight bytes.
+module _ (l : List ℕ) (p size : ℕ) (sized : (fieldSize size ≡ true) × (p + size ≤ length l)) where
+  pub sized-2 : (x : ℕ) → size ≡ 2 → x ≡ num l p 2 → x ≡ num l p size
+  sized-2 x e is = rw e is
+
+  module _ (not-2 : size ≡ 2 → ⊥) where
+    pub four-there : p + 4 ≤ length l
+    four-there = omega (arith, field-size-4 size (sized .0) not-2)
+
+    pub sized-4 : (x : ℕ) → size ≡ 4 → x ≡ num l p 4 → x ≡ num l p size
+    sized-4 x e is = rw e is
+
+    module _ (not-4 : size ≡ 4 → ⊥) where
+      is-8 : size ≡ 8
+      is-8 = field-size-8 size (sized .0) not-2 not-4
+
+      pub eight-there : p + 4 + 4 ≤ length l
+      eight-there = omega (arith, is-8)
+
+      pub sized-8 : (x y : ℕ) → x ≡ num l p 4 → y ≡ num l (p + 4) 4 → x + 4294967296 * y ≡ num l p size
+      sized-8 x y a b = rw (is-8, num-add l p 4 4 (omega (arith, is-8)), a, b)
 
 -- Where the tests up to that of the offset size have passed.
 pub begun : (file : List ℕ) (o ow : ℕ) → o + 16 ≤ length file → same (part file o 4) headerSignature ≡ true
@@ -163,8 +185,8 @@ module _ (len o k : ℕ) (h : o + 16 ≤ len) (l : k < 16) where
   byte-fits s = omega arith
 
 -- The fields, as they are read.
-pub fields-are : (file : List ℕ) (base o ow lw a b c d e f : ℕ) → FieldsThere file o ow lw → a ≡ num file (o + 6) 4 → b ≡ num file (o + 10) 2 → c ≡ num file (o + 12) 2 → d ≡ num file (o + 16) (min ow 8)
-    → e ≡ num file (o + 16 + ow) 2 → f ≡ num file (o + 18 + ow) (min lw 8)
+pub fields-are : (file : List ℕ) (base o ow lw a b c d e f : ℕ) → FieldsThere file o ow lw → a ≡ num file (o + 6) 4 → b ≡ num file (o + 10) 2 → c ≡ num file (o + 12) 2 → d ≡ num file (o + 16) ow
+    → e ≡ num file (o + 16 + ow) 2 → f ≡ num file (o + 18 + ow) lw
     → _≡_ {A = BTreeV2Header}
     (record {
       «tree_type» = getD file (o + 5) 0;
@@ -178,6 +200,4 @@ pub fields-are : (file : List ℕ) (base o ow lw a b c d e f : ℕ) → FieldsTh
     (withBase base (headerAt file o ow lw))
 unfolding headerAt
 fields-are file base o ow lw a b c d e f h ha hb hc hd he hf =
-    let m : min ow 8 ≡ ow = omega (arith, field-size-le ow (h .offsets)) in
-    let n : min lw 8 ≡ lw = omega (arith, field-size-le lw (h .lengths)) in
-    rw (num-1 file (o + 5) (omega (arith, h .there)), ha, hb, hc, hd, he, hf, m, n)
+    rw (num-1 file (o + 5) (omega (arith, h .there)), ha, hb, hc, hd, he, hf)

@@ -1,9 +1,10 @@
 // The header reader.
 
 ghost use mathlib.Core.Path.{_≡_};
+ghost use mathlib.Core.Bool.{true};
 ghost use Prim.Native.Nat.{_+_, _≤_};
 ghost use lib.ListN.{length};
-ghost use Rattle.numbers.specs.Numbers.{num};
+ghost use Rattle.numbers.specs.Numbers.{fieldSize, num};
 ghost use Rattle.btree_v2_header.specs.Header.{withBase, headerAt};
 ghost use Rattle.btree_v2_header.specs.Answers.{Parses};
 ghost use Rattle.btree_v2_header.specs.Parsing.{ParsesPart, Begun, FieldsThere};
@@ -120,7 +121,6 @@ fn fields_at(part: &[u8], base: u64, at: usize, offset_size: u8, length_size: u8
     ensures { λ r. ⌜ r ≡ withBase base (headerAt (now (part .entry)) at «offset_size» «length_size») ⌝ }
 {
     let root_width = offset_size as usize;
-    let total_width = length_size as usize;
     BTreeV2Header {
         tree_type: part[at + 5],
         geometry: Geometry {
@@ -129,9 +129,9 @@ fn fields_at(part: &[u8], base: u64, at: usize, offset_size: u8, length_size: u8
             offset_size,
         },
         depth: read_u16(part, at + 12),
-        root_node_address: numbers::read_le(part, at + 16, root_width),
+        root_node_address: read_sized(part, at + 16, offset_size),
         num_records_in_root: read_u16(part, at + 16 + root_width),
-        total_records: numbers::read_le(part, at + 18 + root_width, total_width),
+        total_records: read_sized(part, at + 18 + root_width, length_size),
         base,
     }
 }
@@ -150,4 +150,19 @@ fn read_u32(file: &[u8], at: usize) -> u32
     ensures { λ r. ⌜ r ≡ num (now (file .entry)) at 4 ⌝ }
 {
     read_u16(file, at) as u32 + 65536 * (read_u16(file, at + 2) as u32)
+}
+
+// The number in the two, four or eight bytes at `at`.
+fn read_sized(file: &[u8], at: usize, size: u8) -> u64
+    requires { ⌜ (fieldSize size ≡ true) × (at + size ≤ length (now file)) ⌝ }
+    ensures { λ r. ⌜ r ≡ num (now (file .entry)) at size ⌝ }
+{
+    if size == 2 {
+        return read_u16(file, at) as u64;
+    }
+    let low = read_u32(file, at) as u64;
+    if size == 4 {
+        return low;
+    }
+    low + 0x1_0000_0000 * (read_u32(file, at + 4) as u64)
 }

@@ -12,7 +12,7 @@ use lib.Count.{leadingZeros, leading-top}
 use lib.Pow.{pow-add, pow-mono}
 use lib.Dec.{ltb, eqb, lit<}
 use lib.ListN.{length, getD, drop, length-take, List·getD-eq-default}
-use borrow.Author.Tests.{ltb-true, ltb-false, lt-ltb, le-ltb, ne-eqb}
+use borrow.Author.Tests.{ltb-true, ltb-false, lt-ltb, le-ltb, ne-eqb, eqb-true}
 use Rattle.numbers.specs.Numbers.{le, unle, part, num, saturated, leastFrom, width, fieldSize}
 use Rattle.numbers.proofs.Lists.{length-part, getD-part, part-add}
 
@@ -211,3 +211,12 @@ module _ (s : ℕ) where
       let z : _≡_ {A = ℕ} 0 1 = cc in
       omega arith)
       (lt-or-le s 9)
+
+  -- One that is not 2 is 4 or more, and one that is not 4 either is 8.
+  pub field-size-8 : fieldSize s ≡ true → (s ≡ 2 → ⊥) → (s ≡ 4 → ⊥) → s ≡ 8
+  unfolding fieldSize
+  field-size-8 e h g = eqb-true s 8 (rw (ne-eqb s 2 h, ne-eqb s 4 g) at e)
+
+  pub field-size-4 : fieldSize s ≡ true → (s ≡ 2 → ⊥) → 4 ≤ s
+  field-size-4 e h =
+      ⊎-elim (λ (l : s < 4). let eight = field-size-8 e h (λ x. omega arith) in omega (arith, eight)) (λ (l : 4 ≤ s). l) (lt-or-le s 4)

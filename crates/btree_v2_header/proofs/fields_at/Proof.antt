@@ -1,4 +1,4 @@
--- `fields_at` reads the seven fields.
+-- `fields_at` reads the fields.
 use Rattle.btree_v2_header.proofs.Headers.{fields-are}
 use borrow.Author.Needs.{needs}
 use Rattle.btree_v2_header.proofs.fields_at.Statement.{statement}
