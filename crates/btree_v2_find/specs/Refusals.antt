@@ -41,7 +41,8 @@ module _ (tests : Tests) where
     below : {t : NodeAt} {ts : List NodeAt} {i : ℕ} → nodeTest t ≡ accepted [] → RefusedAfter number values i ts
         → RefusedAfter number values (1 + i) (t ∷ ts)
 
--- The refusal of a find in `file`, the part from the header's base on, behind i nodes: that of the tests before the root (8 or 16), of the key's field (17) or of a node on the descent.
+-- The refusal of a find in `file`, the part from the header's base on, behind i nodes: that of the tests before the root (8 or 16), of the
+-- key's field (17) or of a node on the descent.
 -- What is tested before it has passed.
 module _ (file : List ℕ) (h : BTreeV2Header) (f : Field) (x number : ℕ) (values : List ℕ) where
   pub data RefusedBy : ℕ → Type 0 where

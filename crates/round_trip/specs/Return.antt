@@ -20,8 +20,8 @@ pub record Stands (q : Request) (recs file : List ℕ) (o : ℕ) : Type 0 where
   pub header : part file o (headerSize (q .geometry .«offset_size») (q .«length_size»)) ≡ headerOf q
   pub nodes : part file (q .start) (nodesOf q * q .geometry .«node_size») ≡ imageOf q recs
 
--- The header that was written, with base 0: type, node size, record size and record count as given, the plan's depth, and the address and record count of
--- the plan's last node, the root.
+-- The header that was written, with base 0: type, node size, record size and record count as given, the plan's depth, and the address and
+-- record count of the plan's last node, the root.
 unfoldable pub headerWritten : Request → BTreeV2Header
 headerWritten q =
     record {

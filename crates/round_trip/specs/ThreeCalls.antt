@@ -68,8 +68,9 @@ pub record NodesCounted (q : Request) (p : BTreeV2Plan) (t : Tally) : Type 0 whe
   pub allNodes : t .leaves + t .internals ≡ p .nodes
   pub atMost : p .nodes ≤ q .«record_count»
 
--- What demand 3 lists, of that plan: the header as written, its root the last of the nodes, and the base; collecting accepted; the records written at the front
--- of the output, and its other bytes as they were; N records put out; and the counts where there is a record: the leaf of none is not read.
+-- What demand 3 lists, of that plan: the header as written, its root the last of the nodes, and the base; collecting accepted; the records
+-- written at the front of the output, and its other bytes as they were; N records put out; and the counts where there is a record: the leaf
+-- of none is not read.
 pub record Complete (q : Request) (p : BTreeV2Plan) (s : Lent) (r : RoundTrip) (outputLast : List ℕ) : Type 0 where
   pub header : headerAnswerOf (r .header)
       ≡ accepted
@@ -88,7 +89,8 @@ pub record Complete (q : Request) (p : BTreeV2Plan) (s : Lent) (r : RoundTrip) (
   pub putOut : r .collected .tally .records ≡ q .«record_count»
   pub counts : 1 ≤ q .«record_count» → NodesCounted q p (r .collected .tally)
 
--- The three calls: the answers and the buffers at exit are those of the three definitions; and demand 3, of what the part from the base on holds.
+-- The three calls: the answers and the buffers at exit are those of the three definitions; and demand 3, of what the part from the base on
+-- holds.
 pub record Answered (q : Request) (s : Lent) (r : RoundTrip) (headerLast imageLast outputLast : List ℕ) : Type 0 where
   pub written : planAnswerOf (r .written) ≡ writer.written q (s .records) (s .header) (s .image)
   pub headerLeft : headerLast ≡ headerExit q (s .records) (s .header) (s .image)
