@@ -14,8 +14,8 @@ btree-v2-collect-spec =
     (λ c κs. search needs) (λ c. search needs)
     (λ c.
     let call = c .before .before in
-    let entry = call .before .before .before .before .before .before in
-    let range : InRange (given (entry .args .tree-type) (sizes (entry .args .node-size) (entry .args .record-size) (entry .args .offset-size)) (entry .args .depth) (entry .args .root-address) (entry .args .root-records) (entry .args .total-records) 0) =
+    let a = call .before .before .before .before .before .before .args in
+    let range : InRange (given (a .tree-type) (sizes (a .node-size) (a .record-size) (a .offset-size)) (a .depth) (a .root-address) (a .root-records) (a .total-records) 0) =
     record { treeType = search needs; nodeSize = search needs; recordSize = search needs; depth = search needs; rootRecords = search needs }
     in
     let whole = collect-whole _ _ _ range refl in

@@ -124,7 +124,8 @@ module _ {M : Type 1} (𝓤 : URA M) (H : Heap 𝓤) (A : Atoms 𝓤) (W : Given
     goes-of =
         qed W ((‵ (flft κ q) ⊛ ‵ ftrue) ∷ ‵ Own ∷ []) ∵
         move ! (1 ∷ []) $ use1 W (‵ Own ⊛ ‵ Own) (shr-slice-copy 𝓤 H A W (named 0) κ u8 .twice s (v ∷ [])) $ split ! $
-        nothing ! $ owned ! u16 (Is u16) (uint-makes 𝓤 H A W w16) k _ (refl, gk) $ fjoin ! $ owned ! u16 (Is u16) (uint-makes 𝓤 H A W w16) n _ (refl, gn) $ fjoin ! $ owned ! u64 (Is u64) (uint-makes 𝓤 H A W w64) a _ (refl, ga) $ fjoin ! $ owned ! u64 (Is u64) (uint-makes 𝓤 H A W w64) b _ (refl, gb) $ fjoin ! $
+        nothing ! $ owned ! u16 (Is u16) (uint-makes 𝓤 H A W w16) k _ (refl, gk) $ fjoin ! $ owned ! u16 (Is u16) (uint-makes 𝓤 H A W w16) n _ (refl, gn) $ fjoin ! $
+        owned ! u64 (Is u64) (uint-makes 𝓤 H A W w64) a _ (refl, ga) $ fjoin ! $ owned ! u64 (Is u64) (uint-makes 𝓤 H A W w64) b _ (refl, gb) $ fjoin ! $
         move ! (1 ∷ 0 ∷ []) $ fjoin ! $ owned ! E.the-row (Is E.the-row) (EL.makes E.the-type E′.the-plain 𝓤 H A) r _ is $ fjoin ! $
         move ! (2 ∷ 0 ∷ []) $ use2 W (raw (RecordsOf 𝓤 H A mem run .pre to-of)) asked-of $ frame ! $ done !
 
@@ -155,7 +156,8 @@ module _ {M : Type 1} (𝓤 : URA M) (H : Heap 𝓤) (A : Atoms 𝓤) (W : Given
           → ent 𝓤 (⋆ 𝓤 H A (‵ (ShrSlice (named 0) κ u8 .own t (w ∷ [])) ∷ (‵ (flft κ q) ⊛ ‵ ftrue) ∷ ‵ Own ∷ [])) (Post made-at)
       exits tested got =
           qed W (‵ (ShrSlice (named 0) κ u8 .own t (w ∷ [])) ∷ (‵ (flft κ q) ⊛ ‵ ftrue) ∷ ‵ Own ∷ []) ∵
-          suffices ! _ (ends-at 𝓤 H A it.ended stayed (it.clauses 𝓤 H A mem run) W (((κ, tt), (q, tt), tt, (s, (b, (a, (n, (k, tt))))), at), tt) made-at made (tt, (tt, (tt, (tt, (tt, tt))))) (tt, (tt, (tt, (tt, (tt, tt)))))) $ says ! (tested, look-bytes (now s) b k a n r (now t) tested got, refl, refl) $
+          suffices ! _ (ends-at 𝓤 H A it.ended stayed (it.clauses 𝓤 H A mem run) W (((κ, tt), (q, tt), tt, (s, (b, (a, (n, (k, tt))))), at), tt) made-at made (tt, (tt, (tt, (tt, (tt, tt))))) (tt, (tt, (tt, (tt, (tt, tt)))))) $
+          says ! (tested, look-bytes (now s) b k a n r (now t) tested got, refl, refl) $
           move ! (1 ∷ []) $ frame ! $ nothing ! $ owned ! u16 (Is u16) (uint-makes 𝓤 H A W w16) k _ (refl, gk) $ fjoin ! $ owned ! u16 (Is u16) (uint-makes 𝓤 H A W w16) n _ (refl, gn) $ fjoin ! $
           owned ! u64 (Is u64) (uint-makes 𝓤 H A W w64) a _ (refl, ga) $ fjoin ! $ owned ! u64 (Is u64) (uint-makes 𝓤 H A W w64) b _ (refl, gb) $ fjoin ! $
           move ! (2 ∷ 0 ∷ []) $ fjoin ! $ frame ! $
@@ -213,7 +215,8 @@ module _ {M : Type 1} (𝓤 : URA M) (H : Heap 𝓤) (A : Atoms 𝓤) (W : Given
             (named 0) (κs .0) u8,
         (uint-tells w64, (uint-tells w64, (uint-tells w16, (uint-tells w16, tt)))),
       ))
-      (λ κs qs bounds a g are. via 𝓤 _ (fst∗ 𝓤 _ (emp 𝓤)) (walk 𝓤 H A W mem run (κs .0) (qs .0) (a .0) (a .1 .0) (a .1 .1 .0) (a .1 .1 .1 .0) (a .1 .1 .1 .1 .0) (are .1 .0 .1) (are .1 .1 .0 .1) (are .1 .1 .1 .0 .1) (are .1 .1 .1 .1 .0 .1) C Λ fm known-check known-of (are .0)))
+      (λ κs qs bounds a g are. via 𝓤 _ (fst∗ 𝓤 _ (emp 𝓤)) (walk 𝓤 H A W mem run (κs .0) (qs .0) (a .0) (a .1 .0) (a .1 .1 .0) (a .1 .1 .1 .0) (a .1 .1 .1 .1 .0)
+      (are .1 .0 .1) (are .1 .1 .0 .1) (are .1 .1 .1 .0 .1) (are .1 .1 .1 .1 .0 .1) C Λ fm known-check known-of (are .0)))
 
 look-meets : {M : Type 1} (𝓤 : URA M) (H : Heap 𝓤) (A : Atoms 𝓤) (W : Given 𝓤 H A) (mem : Memory → SProp 𝓤) (run : Routine → Fun 𝓤) (𝓣 : Tables 𝓤 H)
     → Triple 𝓤 (𝓣 .C #check-view) (Check 𝓤 H A mem run) → Triple 𝓤 (𝓣 .C #records-of) (RecordsOf 𝓤 H A mem run)
