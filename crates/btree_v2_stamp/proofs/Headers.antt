@@ -5,7 +5,7 @@ use Prim.Native.Nat.{ℕ, _+_, _-_, _≤_, _<_}
 use native.Mathlib.Omega.{arith}
 use lib.ListN.{length, length-append}
 use Rattle.numbers.specs.Numbers.{le}
-use Rattle.numbers.specs.Places.{stored, put}
+use Rattle.numbers.specs.Places.{stored, put, joined}
 use Rattle.numbers.proofs.Lists.{length-stored, put-fits, put-not}
 use Rattle.numbers.proofs.Numbers.{le-length}
 use Rattle.checksum.specs.Lookup3.{lookup3}
@@ -13,8 +13,9 @@ use Rattle.format.specs.Bytes.{headerSize, summed, padded, headerBytes}
 use Rattle.format.proofs.HeaderLengths.{length-header}
 use Rattle.format.specs.declared.Request.{Request}
 use Rattle.btree_v2_stamp.specs.Header.{fixedBytes}
-use Rattle.btree_v2_stamp.specs.Stamped.{stamped}
-use Rattle.btree_v2_stamp.proofs.Frames.{after-front, node-stamped}
+use Rattle.format.specs.Fields.{frontFields}
+use Rattle.btree_v2_stamp.specs.Stamped.{fronted, stamped}
+use Rattle.btree_v2_stamp.proofs.Frames.{fronted-is, after-front, whole-stamped}
 
 -- A field right after those before it.
 next-field : (o d e f : List ℕ) (p w x : ℕ) → p + w ≤ length o → d ≡ stored o 0 f → p ≡ length f → e ≡ put d p (le w x)
@@ -29,13 +30,13 @@ length-fixed q depth = simp (length-append, le-length)
 
 -- `put_fixed`
 pub fixed-put : (q : Request) (depth : ℕ) (o a b c d e f : List ℕ) → 16 ≤ length o
-    → a ≡ put o 0 (66 ∷ 84 ∷ 72 ∷ 68 ∷ 0 ∷ q .«tree_type» ∷ []) → b ≡ put a 6 (le 4 (q .geometry .«node_size»))
+    → a ≡ fronted o (66 ∷ 84 ∷ 72 ∷ 68 ∷ []) (q .«tree_type») 3 → b ≡ put a 6 (le 4 (q .geometry .«node_size»))
     → c ≡ put b 10 (le 2 (q .geometry .«record_size»)) → d ≡ put c 12 (le 2 depth) → e ≡ put d 14 (le 1 100) → f ≡ put e 15 (le 1 40)
     → f ≡ stored o 0 (fixedBytes q depth)
-unfolding fixedBytes le
+unfolding fixedBytes le frontFields joined
 fixed-put q depth o a b c d e f h ha hb hc hd he hf =
     let front : List ℕ = 66 ∷ 84 ∷ 72 ∷ 68 ∷ 0 ∷ q .«tree_type» ∷ [] in
-    let s = put-fits o 0 front (omega arith) in
+    let s = fronted-is o 72 68 (q .«tree_type») 3 (omega arith) in
     let sized = front ++ le 4 (q .geometry .«node_size») in
     let recorded = sized ++ le 2 (q .geometry .«record_size») in
     let deep = recorded ++ le 2 depth in
@@ -72,7 +73,7 @@ module _ (q : Request) (depth root n total : ℕ) (o : List ℕ) where
 
   pub header-put : (a b c d z : List ℕ) → headerSize ow lw ≤ length o → a ≡ stored o 0 (fixedBytes q depth) → b ≡ put a 16 (le ow root)
       → c ≡ put b (16 + ow) (le 2 n) → d ≡ put c (18 + ow) (le lw total)
-      → z ≡ stamped d (headerSize ow lw - 4) (headerSize ow lw) → z ≡ put o 0 bytes
+      → z ≡ stamped d (headerSize ow lw - 4) (headerSize ow lw) 2 → z ≡ put o 0 bytes
   header-put a b c d z h ha hb hc hd hz =
       let f = fixedBytes q depth ++ le ow root in
       let lf : length f ≡ 16 + ow = rw (length-append, length-fixed, le-length) in
@@ -82,5 +83,5 @@ module _ (q : Request) (depth root n total : ℕ) (o : List ℕ) where
       let x = next-field o a b (fixedBytes q depth) 16 ow root (omega arith) ha (sym (length-fixed q depth)) hb in
       let y = next-field o b c f (16 + ow) 2 n (omega arith) x (sym lf) hc in
       let w = next-field o c d (f ++ le 2 n) (18 + ow) lw total (omega arith) y (sym lg) hd in
-      let s = node-stamped o d z whole (headerSize ow lw - 4) (headerSize ow lw) w (sym end) (omega arith) h hz in
+      let s = whole-stamped o d z whole (headerSize ow lw - 4) (headerSize ow lw) w (sym end) (omega arith) h hz in
       rw (put-fits o 0 bytes (rw length-header (omega arith)), ← header-bytes, ← padded-exact whole (headerSize ow lw) (omega arith)) s

@@ -1,5 +1,5 @@
 // What stands around the contents of the header and of every node: signature, version and type in front, checksum and zeros behind; and the
-// header itself.
+// header itself. A budget says how many of these fields are put.
 
 ghost use mathlib.Core.Path.{_≡_};
 ghost use mathlib.Core.List.{[], _∷_};
@@ -8,7 +8,7 @@ ghost use lib.ListN.{length, replicate};
 ghost use Rattle.numbers.specs.Places.{stored, put};
 ghost use Rattle.format.specs.Bytes.{headerBytes};
 ghost use Rattle.btree_v2_stamp.specs.Header.{fixedBytes};
-ghost use Rattle.btree_v2_stamp.specs.Stamped.{stamped};
+ghost use Rattle.btree_v2_stamp.specs.Stamped.{fronted, stamped};
 use format::Request;
 
 // When a node is split and merged, in percent of its capacity; written into the header alone.
@@ -28,24 +28,35 @@ fn clear(to: &mut [u8])
     }
 }
 
-// Puts the signature, whose last two letters are given, the version and the tree type, where six bytes are there; else changes nothing.
-pub fn put_front(node: &mut [u8], third: u8, fourth: u8, tree_type: u8)
-    ensures { λ _. ⌜ now (node .exit) ≡ put (now (node .entry)) 0 (66 ∷ 84 ∷ third ∷ fourth ∷ 0 ∷ «tree_type» ∷ []) ⌝ }
+// Puts the signature, whose last two letters are given, the version and the tree type, the first `budget` of them, where six bytes are there;
+// else changes nothing.
+pub fn put_front(node: &mut [u8], third: u8, fourth: u8, tree_type: u8, budget: usize)
+    ensures { λ _. ⌜ now (node .exit) ≡ fronted (now (node .entry)) (66 ∷ 84 ∷ third ∷ fourth ∷ []) «tree_type» budget ⌝ }
 {
     if node.len() < 6 {
+        return;
+    }
+    if budget < 1 {
         return;
     }
     node[0] = b'B';
     node[1] = b'T';
     node[2] = third;
     node[3] = fourth;
+    if budget < 2 {
+        return;
+    }
     node[4] = 0;
+    if budget < 3 {
+        return;
+    }
     node[5] = tree_type;
 }
 
-// Puts the checksum of the first `used` bytes after them, and zeros to the node size, where that much is there; else changes nothing.
-pub fn stamp(node: &mut [u8], used: usize, node_size: usize)
-    ensures { λ _. ⌜ now (node .exit) ≡ stamped (now (node .entry)) used «node_size» ⌝ }
+// Puts the checksum of the first `used` bytes after them, and then zeros to the node size, the first `budget` of the two, where that much is
+// there; else changes nothing.
+pub fn stamp(node: &mut [u8], used: usize, node_size: usize, budget: usize)
+    ensures { λ _. ⌜ now (node .exit) ≡ stamped (now (node .entry)) used «node_size» budget ⌝ }
 {
     if node.len() < node_size {
         return;
@@ -56,8 +67,14 @@ pub fn stamp(node: &mut [u8], used: usize, node_size: usize)
     if node_size - 4 < used {
         return;
     }
+    if budget < 1 {
+        return;
+    }
     let sum = checksum::jenkins_lookup3(&node[..used]);
     numbers::write_le(node, used, sum as u64, 4);
+    if budget < 2 {
+        return;
+    }
     clear(&mut node[used + 4..node_size]);
 }
 
@@ -67,7 +84,7 @@ fn put_fixed(header: &mut [u8], request: Request, depth: u64)
     ensures { λ _. ⌜ now (header .exit) ≡ stored (now (header .entry)) 0 (fixedBytes request depth) ⌝ }
 {
     let geometry = request.geometry;
-    put_front(header, b'H', b'D', request.tree_type);
+    put_front(header, b'H', b'D', request.tree_type, 3);
     numbers::write_le(header, 6, geometry.node_size as u64, 4);
     numbers::write_le(header, 10, geometry.record_size as u64, 2);
     numbers::write_le(header, 12, depth, 2);
@@ -97,5 +114,5 @@ pub fn write_header(
     numbers::write_le(header, 16, address, offset_size);
     numbers::write_le(header, 16 + offset_size, records, 2);
     numbers::write_le(header, 18 + offset_size, total, length_size);
-    stamp(header, size - 4, size);
+    stamp(header, size - 4, size, 2);
 }

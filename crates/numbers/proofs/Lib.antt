@@ -5,3 +5,4 @@ pub mod Numbers
 pub mod Reading
 pub mod Writing
 pub mod Standing
+pub mod Filling
