@@ -1,4 +1,5 @@
 -- The laws behind the functions' proofs.
+pub mod Puts
 pub mod Nodes
 pub mod Internal
 pub mod Planned

@@ -1,45 +1,40 @@
--- Filling one node: bytes put front to back, each field right after the one before it.
-use mathlib.Core.Path.{_≡_, refl, _∙_}
-use mathlib.Core.List.{List, [], _∷_, _++_, append-nil}
+-- Filling a leaf within a budget of fields; a node in its place of the image.
+use mathlib.Core.Path.{_≡_}
+use mathlib.Core.List.{List, [], _∷_, append-nil}
 use Prim.Native.Nat.{ℕ, _+_, _-_, _*_, _≤_}
-use native.Mathlib.Nat.{add-zero, le-of-eq, add-mul}
+use native.Mathlib.Nat.{add-zero, le-of-eq}
 use native.Mathlib.Omega.{arith}
+use borrow.Author.Needs.{zero≤}
 use borrow.Rule.Slice.PartMut.{putMid}
-use borrow.Author.Tests.{le-leb}
-use lib.Dec.{leb}
-use lib.ListN.{length, drop, length-append, length-drop}
+use lib.ListN.{length, take, drop, length-drop}
 use lib.Seq.{take-all, drop-length}
-use Rattle.numbers.specs.Numbers.{pick, le, part}
-use Rattle.numbers.specs.Places.{stored, put}
-use Rattle.numbers.proofs.Lists.{stored-drop, length-part, put-fits}
-use Rattle.numbers.proofs.Numbers.{le-length}
-use Rattle.format.specs.Bytes.{padded, recordRange, leafBytes}
+use Rattle.numbers.specs.Numbers.{part}
+use Rattle.numbers.specs.Places.{stored, joined, filledTo}
+use Rattle.numbers.proofs.Lists.{stored-drop, length-part}
+use Rattle.numbers.proofs.Filling.{filled-stored}
+use Rattle.format.specs.Fields.{leafFields, recordFields}
+use Rattle.format.proofs.Fields.{records-joined}
 use Rattle.format.specs.declared.Request.{Request}
-use Rattle.btree_v2_stamp.specs.Stamped.{stamped}
-use Rattle.btree_v2_stamp.proofs.Frames.{after-front, node-stamped}
-
--- `put_number`: a field that fits.
-module _ (o : List ℕ) (at w : ℕ) (h : at + w ≤ length o) where
-  pub number-put : (d : List ℕ) (x : ℕ) → d ≡ put o at (le w x) → d ≡ stored o at (le w x)
-  number-put d x e = rw (e, put-fits o at (le w x) (rw le-length h))
-
-  pub number-end : (r : ℕ) → r ≡ pick (leb (at + w) (length o)) (at + w) at → r ≡ at + w
-  number-end r e = rw (e, le-leb (at + w) (length o) h)
+use Rattle.btree_v2_stamp.specs.Stamped.{fronted, stamped}
+use Rattle.btree_v2_write.specs.declared.filling.Progress.{Progress}
+use Rattle.btree_v2_write.specs.Filled.{Filled}
+use Rattle.btree_v2_write.proofs.Puts.{filled-then, front-filled, node-filled}
 
 -- `fill_leaf`: front, records, checksum, zeros.
-pub leaf-filled : (q : Request) (o d e z records : List ℕ) (n r : ℕ) → q .geometry .«node_size» ≤ length o → 10 + n * q .geometry .«record_size» ≤ q .geometry .«node_size»
-    → (r + n) * q .geometry .«record_size» ≤ length records → d ≡ put o 0 (66 ∷ 84 ∷ 76 ∷ 70 ∷ 0 ∷ q .«tree_type» ∷ [])
-    → e ≡ stored d 6 (part records (r * q .geometry .«record_size») (n * q .geometry .«record_size»)) → z ≡ stamped e (6 + n * q .geometry .«record_size») (q .geometry .«node_size»)
-    → z ≡ stored o 0 (padded (q .geometry .«node_size») (leafBytes q records n r))
-unfolding leafBytes recordRange
-leaf-filled q o d e z records n r h k m hd he hz =
-    let t = part records (r * q .geometry .«record_size») (n * q .geometry .«record_size») in
-    let f : List ℕ = 66 ∷ 84 ∷ 76 ∷ 70 ∷ 0 ∷ q .«tree_type» ∷ [] in
-    let many : length t ≡ n * q .geometry .«record_size» = length-part records (r * q .geometry .«record_size») (n * q .geometry .«record_size») (rw add-mul at m) in
-    let both = after-front o d e f t 6 refl (hd ∙ put-fits o 0 f (omega arith)) he in
-    node-stamped o e z (f ++ t) (6 + n * q .geometry .«record_size») (q .geometry .«node_size») both (rw (length-append f t, many)) (omega arith) h hz
+pub leaf-filled : (q : Request) (o d e z recs : List ℕ) (n r budget : ℕ) (front end : Progress)
+    → q .geometry .«node_size» ≤ length o → 10 + n * q .geometry .«record_size» ≤ q .geometry .«node_size»
+    → (r + n) * q .geometry .«record_size» ≤ length recs → d ≡ fronted o (66 ∷ 84 ∷ 76 ∷ 70 ∷ []) (q .«tree_type») budget → front .at ≡ 6
+    → front .left ≡ budget - 3 → Filled d e front (recordFields (q .geometry .«record_size») recs n r) end
+    → z ≡ stamped e (end .at) (q .geometry .«node_size») (end .left) → z ≡ filledTo budget (leafFields q recs n r) o
+unfolding leafFields
+leaf-filled q o d e z recs n r budget front end h k m hd at left f hz =
+    let rs = q .geometry .«record_size» in
+    let first = front-filled o d 76 70 (q .«tree_type») budget front (omega arith) hd at left in
+    let long : length (joined (recordFields rs recs n r)) ≡ n * rs = rw records-joined (length-part recs (r * rs) (n * rs) (omega arith)) in
+    node-filled o e z budget (q .geometry .«node_size») end _ (filled-then zero≤ first f) (omega (arith, f .place, long)) h hz
 
 -- A node filled from the front of what follows its place.
-pub node-placed : (o d b : List ℕ) (a : ℕ) → a ≤ length o → d ≡ stored (part o a (length o - a)) 0 b → putMid a (length o - a) o d ≡ stored o a b
-node-placed o d b a h e =
-    rw (e, take-all (length o - a) (drop a o) (le-of-eq (length-drop a o)), ← length-drop a o, drop-length, append-nil, stored-drop, add-zero)
+pub node-placed : (o d : List ℕ) (a budget : ℕ) (fields : List (List ℕ)) → a ≤ length o → d ≡ filledTo budget fields (part o a (length o - a))
+    → putMid a (length o - a) o d ≡ stored o a (joined (take budget fields))
+node-placed o d a budget fields h e =
+    rw (e, filled-stored, take-all (length o - a) (drop a o) (le-of-eq (length-drop a o)), ← length-drop a o, drop-length, append-nil, stored-drop, add-zero)

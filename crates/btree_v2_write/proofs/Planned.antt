@@ -4,7 +4,7 @@ use mathlib.Core.Logic.{⊎-elim}
 use mathlib.Core.Bool.{false}
 use mathlib.Core.List.{List, [], _∷_, _++_, append-nil}
 use Prim.Native.Nat.{ℕ, zero, suc, _+_, _-_, _≤_, _<_}
-use native.Mathlib.Nat.{one-mul, sub-zero, not-suc-le-zero, suc-sub-suc}
+use native.Mathlib.Nat.{sub-zero, not-suc-le-zero, suc-sub-suc}
 use native.Mathlib.Numerals.{add-one}
 use native.Mathlib.Omega.{arith}
 use lib.Dec.{ltb}
@@ -19,11 +19,14 @@ use Rattle.plan.proofs.Distributing.{share, extra, extra-lt, children-is, lengt
 use Rattle.plan.proofs.Lists.{sumOf, AllOf, all-of-map}
 use Rattle.plan.proofs.Plans.{plan-size, plan-nodes}
 use Rattle.plan.proofs.Thin.{thin-children, thin-pos}
-use Rattle.format.specs.Bytes.{recordRange, address, pointerBytes, pointer, pointers, ownRecords, internalBytes, padded, kidsImage, image}
+use Rattle.numbers.specs.Places.{joined}
+use Rattle.format.specs.Bytes.{kidsImage, image}
+use Rattle.format.specs.Fields.{pointerFields, allPointerFields, ownFields, internalFields}
+use Rattle.format.proofs.Fields.{internal-joined}
 use Rattle.format.specs.declared.Request.{Request}
 use Rattle.btree_v2_write.specs.declared.node.Child.{Child}
 use Rattle.btree_v2_write.specs.declared.node.InternalNode.{InternalNode}
-use Rattle.btree_v2_write.specs.Shares.{twoSizes, withOne, recordsAfter, pointerTo, pointersTo, nodesOfAll, internalNodeBytes, childShares, childrenOf}
+use Rattle.btree_v2_write.specs.Shares.{twoSizes, withOne, recordsAfter, pointerTo, pointersTo, nodesOfAll, contentFields, internalNodeFields, childShares, childrenOf}
 use Rattle.btree_v2_write.specs.Subtrees.{capacities, subtree, subtreeNodes, subtreeImage}
 
 -- The two sizes as runs.
@@ -133,20 +136,20 @@ module _ (q : Request) (recs : List ℕ) (d : ℕ) where
       rw (s .0, images-kids (k ∷ ms) (omega arith) (s .1) (j + nodes d (subtree q d m)) (r + m + 1))
 
   records-kids : (ms : List ℕ) → 0 < length ms → Sized ms → (r : ℕ)
-      → ownRecords q recs d (kidsOf (subtree q d) ms) r ≡ recordsAfter (q .geometry .«record_size») recs (front ms) r
-  unfolding kidsOf ownRecords recordRange recordsAfter front
+      → ownFields q recs d (kidsOf (subtree q d) ms) r ≡ recordsAfter (q .geometry .«record_size») recs (front ms) r
+  unfolding kidsOf ownFields recordsAfter front
   records-kids [] h s r = absurd (not-suc-le-zero h)
   records-kids (m ∷ []) h s r = refl
-  records-kids (m ∷ k ∷ ms) h s r = rw (s .0, one-mul, records-kids (k ∷ ms) (omega arith) (s .1) (r + m + 1))
+  records-kids (m ∷ k ∷ ms) h s r = rw (s .0, records-kids (k ∷ ms) (omega arith) (s .1) (r + m + 1))
 
   module _ (w t : ℕ) (e₁ : w ≡ countWidth (q .geometry)) (e : t ≡ totalWidth (q .geometry) d) where
-    pointer-at : (m j : ℕ) → pointer q d (subtree q d m) j ≡ pointerTo q w t (childAt q d m) j
-    unfolding pointer pointerBytes address pointerTo
+    pointer-at : (m j : ℕ) → pointerFields q d (subtree q d m) j ≡ pointerTo q w t (childAt q d m) j
+    unfolding pointerFields pointerTo
     pointer-at m j = rw (e₁, e, root-place q d j m)
 
     pointers-kids : (ms : List ℕ) → 0 < length ms → (j : ℕ)
-        → pointers q d (kidsOf (subtree q d) ms) j ≡ pointersTo q w t (childrenAt q d ms) j
-    unfolding kidsOf pointers pointersTo childrenAt
+        → allPointerFields q d (kidsOf (subtree q d) ms) j ≡ pointersTo q w t (childrenAt q d ms) j
+    unfolding kidsOf allPointerFields pointersTo childrenAt
     pointers-kids [] h j = absurd (not-suc-le-zero h)
     pointers-kids (m ∷ []) h j = pointer-at m j ∙ sym (append-nil _)
     pointers-kids (m ∷ k ∷ ms) h j = rw (pointer-at m j, pointers-kids (k ∷ ms) (omega arith) (j + nodes d (subtree q d m)))
@@ -182,19 +185,20 @@ module _ (q : Request) (recs : List ℕ) (d n : ℕ) (thick : thin (capacities q
         two-any (x .kept + 1) (x .extra) (x .large) (childAt q d (share cap n + 1)) (x .small) (is .large)
         ∙ rw (is .small, is .kept, is .extra, ← children-two q d, two-children)
 
-    internal-is : internalNodeBytes q recs x ≡ internalBytes q recs d (kidsOf (subtree q d) (children cap n)) (x .«first_node») (x .«first_record»)
-    unfolding internalNodeBytes internalBytes
-    internal-is =
+    -- The fields that the code puts are those of the planned node.
+    pub fields-are : internalNodeFields q recs x ≡ internalFields q recs d (kidsOf (subtree q d) (children cap n)) (x .«first_node») (x .«first_record»)
+    unfolding internalNodeFields contentFields internalFields
+    fields-are =
         let own = records-kids q recs d (children cap n) (children-some cap n) sized (x .«first_record») in
         let below = pointers-kids q recs d (x .«count_size») (x .«total_size») (is .counts) (is .total) (children cap n) (children-some cap n) (x .«first_node») in
         rw (shares-are, children-are, own, below)
 
     -- The subtree's image: its children's, and its root's.
     pub image-is : subtreeImage q recs (suc d) n (x .«first_node») (x .«first_record»)
-        ≡ images q recs d (children cap n) (x .«first_node») (x .«first_record») ++ padded (q .geometry .«node_size») (internalNodeBytes q recs x)
+        ≡ images q recs d (children cap n) (x .«first_node») (x .«first_record») ++ joined (internalNodeFields q recs x)
     unfolding subtreeImage image planTree
     image-is =
-        rw (internal-is, images-kids q recs d (children cap n) (children-some cap n) sized (x .«first_node») (x .«first_record»))
+        rw (fields-are, internal-joined, images-kids q recs d (children cap n) (children-some cap n) sized (x .«first_node») (x .«first_record»))
 
     pub nodes-are : nodesOfAll (childrenOf x) ≡ sumOf (subtreeNodes q d) (children cap n)
     nodes-are = rw (children-are, nodes-all q d (children cap n))

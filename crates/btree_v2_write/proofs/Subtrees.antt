@@ -9,10 +9,11 @@ use mir.Val.{Fits}
 use mir.Syntax.{w64}
 use borrow.Author.Tests.{le-ltb, lt-ltb}
 use lib.Dec.{ltb}
-use lib.ListN.{length, getD}
+use lib.ListN.{length, getD, take, length-append}
+use lib.Seq.{take-all}
 use Rattle.numbers.specs.Numbers.{pick}
-use Rattle.numbers.specs.Places.{stored}
-use Rattle.numbers.proofs.Lists.{stored-nil, length-stored}
+use Rattle.numbers.specs.Places.{stored, joined}
+use Rattle.numbers.proofs.Lists.{stored-nil, stored-append, length-stored}
 use Rattle.node_info.proofs.Capacities.{total-le}
 use Rattle.node_info.specs.Capacity.{totalWidth}
 use Rattle.plan.specs.Tree.{Tree, sumKids, between, nodes, below, count, size, AllKids, Everywhere}
@@ -21,16 +22,23 @@ use Rattle.plan.proofs.Distributing.{share, extra, taken-le, taken-pos, extra-l
 use Rattle.plan.proofs.Lists.{sumOf, AllOf, sumKids-of}
 use Rattle.plan.proofs.Plans.{plan-size, plan-count}
 use Rattle.plan.proofs.Thin.{thin-children, thin-pos}
-use Rattle.format.specs.Bytes.{padded, leafBytes, image}
+use Rattle.format.specs.Bytes.{image}
+use Rattle.format.specs.Fields.{frontFields, endFields, withEnd, leafFields}
+use Rattle.format.proofs.Fields.{leaf-joined, records-many}
 use Rattle.format.specs.Fit.{Fit}
 use Rattle.format.proofs.Lengths.{length-image, length-children}
 use Rattle.format.specs.declared.Request.{Request}
 use Rattle.btree_v2_write.specs.declared.node.Child.{Child}
 use Rattle.btree_v2_write.specs.declared.node.InternalNode.{InternalNode}
-use Rattle.btree_v2_write.specs.Shares.{twoSizes, withOne, nodesOfAll, childShares, childrenOf, internalNodeBytes, InternalNodeFits}
+use Rattle.btree_v2_write.specs.Shares.{twoSizes, withOne, nodesOfAll, childShares, childrenOf, internalNodeFields, InternalNodeFits}
 use Rattle.btree_v2_write.specs.Subtrees.{capacities, subtree, subtreeNodes, subtreeImage, Ready, ChildOf, SubtreeWritten}
-use Rattle.btree_v2_write.proofs.Internal.{from, from-first, from-step, from-end, stored-turn, number-fits}
+use Rattle.btree_v2_write.proofs.Internal.{from, from-first, from-step, from-end, number-fits, internal-few}
 use Rattle.btree_v2_write.proofs.Planned.{two-children, each-child, one-each, images, images-kids, sized, Numbers, nodes-node, nodes-are, records-within, image-is}
+
+-- Bytes right after others.
+stored-turn : (o : List ℕ) (p q : ℕ) (x rest : List ℕ) → p ≤ length o → q ≡ p + length x
+    → stored (stored o p x) q rest ≡ stored o p (x ++ rest)
+stored-turn o p q x rest h e = rw e (stored-append o p x h rest)
 
 -- What holds of every child of the tree holds of every number that a child is made of.
 all-numbers : {A : Type 0} (f : ℕ → A) (P : A → Type 0) (ms : List ℕ) → 0 < length ms → AllKids P (kidsOf f ms) → AllOf (λ m. P (f m)) ms
@@ -124,12 +132,19 @@ module _ (q : Request) (cs : ℕ) (most totals recs o : List ℕ) (depth n j r :
   unfolding count planTree
   leaf-fits = leaf .fits .node
 
-pub leaf-done : {q : Request} {recs o o′ : List ℕ} {depth n j r : ℕ} → depth ≡ 0
-    → o′ ≡ stored o (j * q .geometry .«node_size») (padded (q .geometry .«node_size») (leafBytes q recs n r))
+-- The budget of a whole node covers a leaf.
+leaf-few : (q : Request) (recs : List ℕ) (n r : ℕ) → n < 2 ^ 24 → length (leafFields q recs n r) ≤ 2 ^ 32
+unfolding leafFields withEnd endFields frontFields
+leaf-few q recs n r h = simp (length-append, records-many) (omega arith)
+
+pub leaf-done : {q : Request} {cs : ℕ} {most totals recs o o′ : List ℕ} {depth n j r whole : ℕ}
+    → Ready q cs most totals (length recs) (length o) depth n j r → depth ≡ 0 → 2 ^ 32 ≤ whole
+    → o′ ≡ stored o (j * q .geometry .«node_size») (joined (take whole (leafFields q recs n r)))
     → SubtreeWritten q recs o o′ depth n j r (record { records = n; total = n; nodes = 1 })
 unfolding subtreeImage nodes below count size image planTree
-leaf-done none e =
-    rw none (record { image = e; child = record { records = refl; total = refl; nodes = refl } })
+leaf-done {q} {recs = recs} {o} {o′} {n = n} {j} {r} {whole} ready none many e =
+    let all = take-all whole (leafFields q recs n r) (le-trans (leaf-few q recs n r (omega (arith, ready .few))) many) in
+    rw none (record { image = rw (all, leaf-joined) at e; child = record { records = refl; total = refl; nodes = refl } })
 
 -- A node of depth at least 1 that keeps k records; its children have b records, the first x of them one more.
 pub record Distribution (q : Request) (cs : ℕ) (most totals : List ℕ) (R I depth n j r k b x : ℕ) : Type 0 where
@@ -451,19 +466,20 @@ module _ {q : Request} {cs : ℕ} {most totals recs : List ℕ} {depth n j r k b
           ∙ left
           ∙ rw (first .child .nodes, total-is, first .image, stored-turn o₀ _ _ own after (omega (arith, node .room, same)) ends, first-left (inv .distributed) e)
 
-      image-all : subtreeImage q recs (suc d) n j r ≡ whole ++ padded (q .geometry .«node_size») (internalNodeBytes q recs internal)
+      image-all : subtreeImage q recs (suc d) n j r ≡ whole ++ joined (internalNodeFields q recs internal)
       unfolding whole
       image-all = rw (all-is (inv .distributed)) (image-is q recs d n (thick (ready (inv .distributed))) internal numbers)
 
-      pub root-done : {z : List ℕ} → z ≡ stored o (next * q .geometry .«node_size») (padded (q .geometry .«node_size») (internalNodeBytes q recs internal))
+      pub root-done : {z : List ℕ} {budget : ℕ} → 2 ^ 32 ≤ budget → z ≡ stored o (next * q .geometry .«node_size») (joined (take budget (internalNodeFields q recs internal)))
           → SubtreeWritten q recs o₀ z depth n j r (record { records = k; total = nextRecord - r - 1; nodes = next + 1 - j })
-      root-done {z} written =
+      root-done {z} {budget} many written =
           let node = ready (inv .distributed) in
-          let own = padded (q .geometry .«node_size») (internalNodeBytes q recs internal) in
+          let own = joined (internalNodeFields q recs internal) in
+          let all = take-all budget (internalNodeFields q recs internal) (le-trans (internal-few q recs internal root-fits (kept-small (inv .distributed))) many) in
           let room : j * q .geometry .«node_size» ≤ length o₀ = omega (arith, node .room, same) in
           subst (λ (u : ℕ). SubtreeWritten q recs o₀ z u n j r (record { records = k; total = nextRecord - r - 1; nodes = next + 1 - j })) (sym (deeper (inv .distributed)))
           (record {
-            image = rw (written, children-done, stored-turn o₀ _ _ whole own room place, image-all);
+            image = rw (written, all, children-done, stored-turn o₀ _ _ whole own room place, image-all);
             child =
                 record {
                   records = k-is (inv .distributed) ∙ sym (plan-count (capacities q) d n);

@@ -1,4 +1,5 @@
 -- The definitions that the contracts of the crate cite.
+pub mod Filled
 pub mod Shares
 pub mod Subtrees
 pub mod Call

@@ -1,9 +1,10 @@
 -- An internal node by its children's numbers, as the functions that fill it go by them: the children come in two sizes.
 use Prim.Native.Nat.{ℕ, zero, suc, _+_, _-_, _*_, _^_, _≤_, _<_}
 use mathlib.Core.List.{List, [], _∷_, _++_}
-use Rattle.numbers.specs.Numbers.{le, part}
+use Rattle.numbers.specs.Numbers.{le}
 use Rattle.node_info.specs.Capacity.{childPointerSize}
-use Rattle.format.specs.Bytes.{internalSignature}
+use Rattle.format.specs.Bytes.{internalSignature, address}
+use Rattle.format.specs.Fields.{frontFields, withEnd, recordFields}
 use Rattle.btree_v2_write.specs.declared.node.Child.{Child}
 use Rattle.btree_v2_write.specs.declared.node.InternalNode.{InternalNode}
 use Rattle.format.specs.declared.Request.{Request}
@@ -19,18 +20,18 @@ unfoldable pub withOne : List ℕ → ℕ
 withOne [] = 0
 withOne (m ∷ ms) = m + 1 + withOne ms
 
--- The records that follow each of these children; the first record below is record r.
-unfoldable pub recordsAfter : ℕ → List ℕ → List ℕ → ℕ → List ℕ
+-- The record that follows each of these children; the first record below is record r.
+unfoldable pub recordsAfter : ℕ → List ℕ → List ℕ → ℕ → List (List ℕ)
 recordsAfter rs recs [] r = []
-recordsAfter rs recs (m ∷ ms) r = part recs ((r + m) * rs) rs ++ recordsAfter rs recs ms (r + m + 1)
+recordsAfter rs recs (m ∷ ms) r = recordFields rs recs 1 (r + m) ++ recordsAfter rs recs ms (r + m + 1)
 
--- The bytes of a pointer whose record count has w bytes and whose total has t; the child's first node is node j.
-unfoldable pub pointerTo : Request → ℕ → ℕ → Child → ℕ → List ℕ
+-- The fields of a pointer whose record count has w bytes and whose total has t; the child's first node is node j.
+unfoldable pub pointerTo : Request → ℕ → ℕ → Child → ℕ → List (List ℕ)
 pointerTo q w t x j =
-    le (q .geometry .«offset_size») (q .start + (j + (x .nodes - 1)) * q .geometry .«node_size») ++ (le w (x .records) ++ le t (x .total))
+    le (q .geometry .«offset_size») (address q (j + (x .nodes - 1))) ∷ le w (x .records) ∷ le t (x .total) ∷ []
 
 -- The pointers to these children; the first node below is node j.
-unfoldable pub pointersTo : Request → ℕ → ℕ → List Child → ℕ → List ℕ
+unfoldable pub pointersTo : Request → ℕ → ℕ → List Child → ℕ → List (List ℕ)
 pointersTo q w t [] j = []
 pointersTo q w t (x ∷ xs) j = pointerTo q w t x j ++ pointersTo q w t xs (j + x .nodes)
 
@@ -65,14 +66,15 @@ pub record PointersFit (q : Request) (length at : ℕ) (x : InternalNode) : Type
   pub short : q .start + (x .«first_node» + nodesOfAll (childrenOf x)) * q .geometry .«node_size» < 2 ^ 64
   pub few : x .kept < 2 ^ 32
 
--- An internal node's bytes before its checksum.
-unfoldable pub internalNodeBytes : Request → List ℕ → InternalNode → List ℕ
-internalNodeBytes q recs x =
-    internalSignature
-    ++ (0
-    ∷ q .«tree_type»
-    ∷ (recordsAfter (q .geometry .«record_size») recs (childShares x) (x .«first_record»)
-    ++ pointersTo q (x .«count_size») (x .«total_size») (childrenOf x) (x .«first_node»)))
+-- An internal node's fields: those between its front and its end, its own records and then its pointers; and all.
+unfoldable pub contentFields : Request → List ℕ → InternalNode → List (List ℕ)
+contentFields q recs x =
+    recordsAfter (q .geometry .«record_size») recs (childShares x) (x .«first_record»)
+    ++ pointersTo q (x .«count_size») (x .«total_size») (childrenOf x) (x .«first_node»)
+
+unfoldable pub internalNodeFields : Request → List ℕ → InternalNode → List (List ℕ)
+internalNodeFields q recs x =
+    withEnd (q .geometry .«node_size») (frontFields internalSignature (q .«tree_type») ++ contentFields q recs x)
 
 -- The numbers of an internal node that can be filled from a record list of this length.
 pub record InternalNodeFits (q : Request) (records : ℕ) (x : InternalNode) : Type 0 where

@@ -9,6 +9,7 @@ use plan::BTreeV2Plan;
 use plan::PlanAnswer;
 use write_checks::Lengths;
 
+mod filling;
 mod node;
 mod subtree;
 

@@ -1,47 +1,32 @@
-// Filling one node: a leaf or an internal node, in its place of the image.
+// Filling one node: a leaf or an internal node, in its place of the image. Fields are put front to back, up to a budget of fields; the contracts
+// hold for every budget, so they say what the node is wherever a field ends.
 
 ghost use mathlib.Core.Path.{_≡_};
 ghost use Prim.Native.Nat.{_+_, _*_, _^_, _≤_, _<_};
-ghost use lib.ListN.{length};
+ghost use lib.ListN.{length, take};
 ghost use lib.Dec.{ltb};
-ghost use Rattle.numbers.specs.Numbers.{pick, le, part};
-ghost use Rattle.numbers.specs.Places.{stored};
-ghost use Rattle.format.specs.Bytes.{prefixSize, padded, leafBytes};
-ghost use Rattle.node_info.specs.Capacity.{childPointerSize};
-ghost use Rattle.btree_v2_write.specs.Shares.{twoSizes, withOne, recordsAfter, pointerSize, pointerTo, pointersTo, childrenOf, PointerFits, PointersFit, InternalNodeFits, internalNodeBytes};
+ghost use Rattle.numbers.specs.Numbers.{pick};
+ghost use Rattle.numbers.specs.Places.{stored, joined, filledTo};
+ghost use Rattle.format.specs.Fields.{leafFields};
+ghost use Rattle.btree_v2_write.specs.Filled.{Filled};
+ghost use Rattle.btree_v2_write.specs.Shares.{twoSizes, withOne, recordsAfter, pointerTo, pointersTo, childrenOf, PointerFits, PointersFit, InternalNodeFits, contentFields, internalNodeFields};
+use crate::filling;
+use crate::filling::Progress;
 use format::Request;
 
-// Puts `count` bytes of the record list, from its place `first` on, at `at`.
-fn put_records(node: &mut [u8], at: usize, records: &[u8], first: usize, count: usize)
-    requires { ⌜ (at + count ≤ length (now node)) × (first + count ≤ length (now records)) ⌝ }
-    ensures { λ _. ⌜ now (node .exit) ≡ stored (now (node .entry)) at (part (now (records .entry)) first count) ⌝ }
-{
-    numbers::put_bytes(node, at, &records[first..first + count]);
-}
-
-// Puts x in `width` bytes at `at`, and gives the place after them.
-fn put_number(node: &mut [u8], at: usize, x: u64, width: usize) -> usize
-    requires { ⌜ at + width ≤ length (now node) ⌝ }
-    ensures { λ r. ⌜ (now (node .exit) ≡ stored (now (node .entry)) at (le width x)) × (r ≡ at + width) ⌝ }
-{
-    numbers::write_le(node, at, x, width)
-}
-
-// Fills a leaf of n records, the first of them record r.
-fn fill_leaf(node: &mut [u8], request: Request, records: &[u8], n: usize, r: usize)
+// Fills a leaf of n records, the first of them record r: its first `budget` fields.
+fn fill_leaf(node: &mut [u8], request: Request, records: &[u8], n: usize, r: usize, budget: usize)
     requires { ⌜ (request .geometry .«node_size» ≤ length (now node)) × (10 + n * request .geometry .«record_size» ≤ request .geometry .«node_size») × ((r + n) * request .geometry .«record_size» ≤ length (now records)) ⌝ }
-    ensures { λ _. ⌜ now (node .exit) ≡ stored (now (node .entry)) 0 (padded (request .geometry .«node_size») (leafBytes request (now (records .entry)) n r)) ⌝ }
+    ensures { λ _. ⌜ now (node .exit) ≡ filledTo budget (leafFields request (now (records .entry)) n r) (now (node .entry)) ⌝ }
 {
     let geometry = request.geometry;
-    let size = geometry.record_size as usize;
-    let bytes = n * size;
-    let prefix = format::PREFIX_SIZE as usize;
-    btree_v2_stamp::put_front(node, b'L', b'F', request.tree_type);
-    put_records(node, prefix, records, r * size, bytes);
-    btree_v2_stamp::stamp(node, prefix + bytes, geometry.node_size as usize);
+    btree_v2_stamp::put_front(node, b'L', b'F', request.tree_type, budget);
+    let front = filling::after_front(budget);
+    let end = filling::put_records(node, front, records, geometry.record_size as usize, n, r);
+    btree_v2_stamp::stamp(node, end.at, geometry.node_size as usize, end.left);
 }
 
-// Writes a leaf as node j of the image.
+// Writes a leaf as node j of the image: its first `budget` fields.
 pub(crate) fn write_leaf(
     image: &mut [u8],
     request: Request,
@@ -49,14 +34,15 @@ pub(crate) fn write_leaf(
     n: usize,
     r: usize,
     j: usize,
+    budget: usize,
 )
     requires { ⌜ ((j + 1) * request .geometry .«node_size» ≤ length (now image)) × (10 + n * request .geometry .«record_size» ≤ request .geometry .«node_size»)
         × ((r + n) * request .geometry .«record_size» ≤ length (now records)) ⌝ }
-    ensures { λ _. ⌜ now (image .exit) ≡ stored (now (image .entry)) (j * request .geometry .«node_size») (padded (request .geometry .«node_size») (leafBytes request (now (records .entry)) n r)) ⌝ }
+    ensures { λ _. ⌜ now (image .exit) ≡ stored (now (image .entry)) (j * request .geometry .«node_size») (joined (take budget (leafFields request (now (records .entry)) n r))) ⌝ }
 {
     let geometry = request.geometry;
     let at = j * (geometry.node_size as usize);
-    fill_leaf(&mut image[at..], request, records, n, r);
+    fill_leaf(&mut image[at..], request, records, n, r, budget);
 }
 
 // A child in numbers, as its writing returns it: its root's records, all its records, and its nodes.
@@ -74,31 +60,31 @@ pub(crate) fn share(base: usize, extra: usize, i: usize) -> usize
     if i < extra { base + 1 } else { base }
 }
 
-// Puts the node's own records, `kept` of them, after its front, and gives the place after them. The records below the node begin with record
-// r; a child has `base` records, the first `extra` one more.
+// Puts the node's own records, `kept` of them, as the next fields. The records below the node begin with record r; a child has `base` records,
+// the first `extra` one more.
 fn put_own_records(
     node: &mut [u8],
+    to: Progress,
     record_size: usize,
     records: &[u8],
     kept: usize,
     base: usize,
     extra: usize,
     r: usize,
-) -> usize
-    requires { ⌜ (base < 2 ^ 32) × (prefixSize + kept * «record_size» ≤ length (now node)) × ((r + withOne (twoSizes kept extra (base + 1) base)) * «record_size» ≤ length (now records)) × (0 < «record_size») ⌝ }
-    ensures { λ p. ⌜ (now (node .exit) ≡ stored (now (node .entry)) prefixSize (recordsAfter «record_size» (now (records .entry)) (twoSizes kept extra (base + 1) base) r)) × (p ≡ prefixSize + kept * «record_size») ⌝ }
+) -> Progress
+    requires { ⌜ (base < 2 ^ 32) × (to .at + kept * «record_size» ≤ length (now node)) × ((r + withOne (twoSizes kept extra (base + 1) base)) * «record_size» ≤ length (now records)) × (0 < «record_size») ⌝ }
+    ensures { λ p. ⌜ Filled (now (node .entry)) (now (node .exit)) to (recordsAfter «record_size» (now (records .entry)) (twoSizes kept extra (base + 1) base) r) p ⌝ }
 {
-    let mut at = format::PREFIX_SIZE as usize;
+    let mut to = to;
     let mut next_record = r;
     let mut i = 0;
     while i < kept {
         let after = next_record + share(base, extra, i);
-        put_records(node, at, records, after * record_size, record_size);
+        to = filling::put_records(node, to, records, record_size, 1, after);
         next_record = after + 1;
-        at += record_size;
         i += 1;
     }
-    at
+    to
 }
 
 // The address of node j.
@@ -132,31 +118,30 @@ pub(crate) struct InternalNode {
     pub(crate) first_record: usize,
 }
 
-// Puts the pointer to a child whose first node is node j, with a record count and a total of these sizes, and gives the place after it.
+// Puts address, record count and total of the pointer to a child whose first node is node j as the next fields, the two counts of these sizes.
 fn put_pointer(
     node: &mut [u8],
     request: Request,
-    at: usize,
+    to: Progress,
     child: Child,
     count_size: usize,
     total_size: usize,
     j: usize,
-) -> usize
-    requires { ⌜ PointerFits request (length (now node)) at child «count_size» «total_size» j ⌝ }
-    ensures { λ p. ⌜ (now (node .exit) ≡ stored (now (node .entry)) at (pointerTo request «count_size» «total_size» child j)) × (p ≡ at + childPointerSize (request .geometry) «count_size» «total_size») ⌝ }
+) -> Progress
+    requires { ⌜ PointerFits request (length (now node)) (to .at) child «count_size» «total_size» j ⌝ }
+    ensures { λ p. ⌜ Filled (now (node .entry)) (now (node .exit)) to (pointerTo request «count_size» «total_size» child j) p ⌝ }
 {
     let geometry = request.geometry;
     let address = node_address(request, j + (child.nodes - 1));
-    let at = put_number(node, at, address, geometry.offset_size as usize);
-    let at = put_number(node, at, child.records, count_size);
-    put_number(node, at, child.total, total_size)
+    let to = filling::put_number(node, to, address, geometry.offset_size as usize);
+    let to = filling::put_number(node, to, child.records, count_size);
+    filling::put_number(node, to, child.total, total_size)
 }
 
-// Puts the pointers to a node's children from `at` on, and gives the place after them.
-fn put_pointers(node: &mut [u8], request: Request, at: usize, internal: InternalNode) -> usize
-    requires { ⌜ PointersFit request (length (now node)) at internal ⌝ }
-    ensures { λ p. ⌜ (now (node .exit) ≡ stored (now (node .entry)) at (pointersTo request (internal .«count_size») (internal .«total_size») (childrenOf internal) (internal .«first_node»)))
-        × (p ≡ at + (internal .kept + 1) * pointerSize request internal) ⌝ }
+// Puts the pointers to a node's children as the next fields.
+fn put_pointers(node: &mut [u8], request: Request, to: Progress, internal: InternalNode) -> Progress
+    requires { ⌜ PointersFit request (length (now node)) (to .at) internal ⌝ }
+    ensures { λ p. ⌜ Filled (now (node .entry)) (now (node .exit)) to (pointersTo request (internal .«count_size») (internal .«total_size») (childrenOf internal) (internal .«first_node»)) p ⌝ }
 {
     let kept = internal.kept;
     let extra = internal.extra;
@@ -164,27 +149,33 @@ fn put_pointers(node: &mut [u8], request: Request, at: usize, internal: Internal
     let small = internal.small;
     let count_size = internal.count_size;
     let total_size = internal.total_size;
-    let mut at = at;
+    let mut to = to;
     let mut next = internal.first_node;
     let mut i = 0;
     while i <= kept {
         let child = one_of(extra, large, small, i);
-        at = put_pointer(node, request, at, child, count_size, total_size, next);
+        to = put_pointer(node, request, to, child, count_size, total_size, next);
         next += child.nodes;
         i += 1;
     }
-    at
+    to
 }
 
-// Fills an internal node.
-fn fill_internal(node: &mut [u8], request: Request, records: &[u8], internal: InternalNode)
-    requires { ⌜ InternalNodeFits request (length (now records)) internal ⌝ ∗ ⌜ request .geometry .«node_size» ≤ length (now node) ⌝ }
-    ensures { λ _. ⌜ now (node .exit) ≡ stored (now (node .entry)) 0 (padded (request .geometry .«node_size») (internalNodeBytes request (now (records .entry)) internal)) ⌝ }
+// Puts a node's own records and the pointers to its children as the next fields, which are those after its front.
+fn put_contents(
+    node: &mut [u8],
+    request: Request,
+    records: &[u8],
+    front: Progress,
+    internal: InternalNode,
+) -> Progress
+    requires { ⌜ InternalNodeFits request (length (now records)) internal ⌝ ∗ ⌜ (request .geometry .«node_size» ≤ length (now node)) × (front .at ≡ 6) ⌝ }
+    ensures { λ p. ⌜ Filled (now (node .entry)) (now (node .exit)) front (contentFields request (now (records .entry)) internal) p ⌝ }
 {
     let geometry = request.geometry;
-    btree_v2_stamp::put_front(node, b'I', b'N', request.tree_type);
-    let at = put_own_records(
+    let own = put_own_records(
         node,
+        front,
         geometry.record_size as usize,
         records,
         internal.kept,
@@ -192,22 +183,40 @@ fn fill_internal(node: &mut [u8], request: Request, records: &[u8], internal: In
         internal.extra,
         internal.first_record,
     );
-    let end = put_pointers(node, request, at, internal);
-    btree_v2_stamp::stamp(node, end, geometry.node_size as usize);
+    put_pointers(node, request, own, internal)
 }
 
-// Writes an internal node as node j of the image.
+// Fills an internal node: its first `budget` fields.
+fn fill_internal(
+    node: &mut [u8],
+    request: Request,
+    records: &[u8],
+    internal: InternalNode,
+    budget: usize,
+)
+    requires { ⌜ InternalNodeFits request (length (now records)) internal ⌝ ∗ ⌜ request .geometry .«node_size» ≤ length (now node) ⌝ }
+    ensures { λ _. ⌜ now (node .exit) ≡ filledTo budget (internalNodeFields request (now (records .entry)) internal) (now (node .entry)) ⌝ }
+{
+    let geometry = request.geometry;
+    btree_v2_stamp::put_front(node, b'I', b'N', request.tree_type, budget);
+    let front = filling::after_front(budget);
+    let end = put_contents(node, request, records, front, internal);
+    btree_v2_stamp::stamp(node, end.at, geometry.node_size as usize, end.left);
+}
+
+// Writes an internal node as node j of the image: its first `budget` fields.
 pub(crate) fn write_internal(
     image: &mut [u8],
     request: Request,
     records: &[u8],
     internal: InternalNode,
     j: usize,
+    budget: usize,
 )
     requires { ⌜ InternalNodeFits request (length (now records)) internal ⌝ ∗ ⌜ (j + 1) * request .geometry .«node_size» ≤ length (now image) ⌝ }
-    ensures { λ _. ⌜ now (image .exit) ≡ stored (now (image .entry)) (j * request .geometry .«node_size») (padded (request .geometry .«node_size») (internalNodeBytes request (now (records .entry)) internal)) ⌝ }
+    ensures { λ _. ⌜ now (image .exit) ≡ stored (now (image .entry)) (j * request .geometry .«node_size») (joined (take budget (internalNodeFields request (now (records .entry)) internal))) ⌝ }
 {
     let geometry = request.geometry;
     let at = j * (geometry.node_size as usize);
-    fill_internal(&mut image[at..], request, records, internal);
+    fill_internal(&mut image[at..], request, records, internal, budget);
 }

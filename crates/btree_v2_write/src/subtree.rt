@@ -2,6 +2,7 @@
 
 ghost use lib.ListN.{length};
 ghost use Rattle.btree_v2_write.specs.Subtrees.{Ready, SubtreeWritten};
+use crate::filling;
 use crate::node;
 use crate::node::Child;
 use crate::node::InternalNode;
@@ -26,7 +27,7 @@ fn write_subtree(
     ensures { λ x. ⌜ SubtreeWritten request (now (records .entry)) (now (image .entry)) (now (image .exit)) depth n j r x ⌝ }
 {
     if depth == 0 {
-        node::write_leaf(image, request, records, n, r, j);
+        node::write_leaf(image, request, records, n, r, j, filling::whole());
         return Child {
             records: n as u64,
             total: n as u64,
@@ -88,7 +89,7 @@ fn write_subtree(
         first_node: j,
         first_record: r,
     };
-    node::write_internal(image, request, records, internal, next);
+    node::write_internal(image, request, records, internal, next, filling::whole());
     Child {
         records: distributed.kept,
         total: (next_record - r - 1) as u64,

@@ -1,4 +1,4 @@
--- Front, own records, pointers, checksum and zeros, each after the one before.
+-- Front, contents, checksum and zeros, each after the one before, as far as the budget goes.
 use Rattle.btree_v2_write.proofs.Internal.{internal-filled}
 use borrow.Author.Needs.{needs}
 use Rattle.btree_v2_write.proofs.node.fill_internal.Statement.{statement}
@@ -8,6 +8,6 @@ pub fill-internal-spec : {M : Type 1} → statement M
 fill-internal-spec =
     tie.close
     (tie.spec
-    (λ c κs. search needs) (λ c. search needs) (λ c κs. search needs) (λ c κs. search needs) (λ c. search needs)
-    (λ c κs. search needs) (λ c. search needs)
+    (λ c κs. search needs) (λ c κs. search needs) (λ c κs. search needs) (λ c. search needs) (λ c κs. search needs)
+    (λ c. search needs)
     (λ c. search internal-filled))

@@ -1,4 +1,4 @@
--- Front, records, checksum and zeros, each after the one before.
+-- Front, records, checksum and zeros, each after the one before, as far as the budget goes.
 use Rattle.btree_v2_write.proofs.Nodes.{leaf-filled}
 use borrow.Author.Needs.{needs}
 use Rattle.btree_v2_write.proofs.node.fill_leaf.Statement.{statement}
@@ -8,6 +8,6 @@ pub fill-leaf-spec : {M : Type 1} → statement M
 fill-leaf-spec =
     tie.close
     (tie.spec
-    (λ c. search needs) (λ c. search needs) (λ c κs. search needs) (λ c. search needs) (λ c κs. search needs)
-    (λ c. search needs) (λ c. search needs) (λ c κs. search needs) (λ c. search needs)
+    (λ c κs. search needs) (λ c κs. search needs) (λ c. search needs) (λ c κs. search needs) (λ c. search needs)
+    (λ c κs. search needs) (λ c. search needs)
     (λ c. search leaf-filled))

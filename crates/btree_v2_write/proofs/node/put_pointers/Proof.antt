@@ -1,4 +1,4 @@
--- The loop of `put_pointers`: what is left, stored at the place reached, gives the whole.
+-- The loop of `put_pointers`: what fills the rest, from the progress reached on, fills the whole.
 use Rattle.btree_v2_write.proofs.Internal.{PointersLeft, pointers-start, pointer-fits, next-fits, turn-fits, pointers-turn, pointers-end}
 use Prim.Native.Nat.{_+_, _-_}
 use borrow.Author.Needs.{needs}
@@ -6,10 +6,10 @@ use Rattle.btree_v2_write.proofs.node.put_pointers.Statement.{statement
 use Rattle.btree_v2_write.proofs.node.put_pointers.Tie as tie
 
 abbrev Inv-loop : tie.InvT-loop
-Inv-loop o q at kept extra large small w t at₀ next₀ i₀ d at′ next i = PointersLeft o q at kept extra large small w t next₀ d at′ next i
+Inv-loop o q kept extra large small w t to₀ next₀ i₀ d to next i = PointersLeft o q to₀ kept extra large small w t next₀ d to next i
 
 abbrev μ-loop : tie.MeasureT-loop
-μ-loop o q at kept extra large small w t at₀ next₀ i₀ d at′ next i = kept + 1 - i
+μ-loop o q kept extra large small w t to₀ next₀ i₀ d to next i = kept + 1 - i
 
 pub put-pointers-spec : {M : Type 1} → statement M
 put-pointers-spec =

@@ -11,4 +11,4 @@ write-leaf-spec =
     (tie.spec
     (λ c. search needs) (λ c. search needs) (λ c. search needs) (λ c. search needs) (λ c. search needs)
     (λ c κs. search needs) (λ c. search needs)
-    (λ c. node-placed _ _ _ _ (omega arith) (c .before .before .fill-leaf .ensures)))
+    (λ c. node-placed _ _ _ _ _ (omega arith) (c .before .before .fill-leaf .ensures)))

@@ -6,6 +6,7 @@ use borrow.Fn.PlainCycle.{Measures, is, falls, and}
 use Rattle.btree_v2_write.proofs.subtree.write_subtree.Reads as write-subtree
 use Rattle.btree_v2_write.proofs.subtree.write_subtree.Kinds as write-subtree-kinds
 use Rattle.btree_v2_write.proofs.subtree.+write_subtree.Lts-write_subtree as write-subtree-lts
+use Rattle.btree_v2_write.proofs.filling.whole.Reads as whole-reads
 use Rattle.btree_v2_write.proofs.node.share.Reads as share-reads
 use Rattle.btree_v2_write.proofs.node.write_internal.Reads as write-internal-reads
 use Rattle.btree_v2_write.proofs.node.write_leaf.Reads as write-leaf-reads
@@ -37,7 +38,7 @@ abbrev μ-loop : write-subtree-lts.MeasureT-loop
 
 abbrev claims : ℕ → write-subtree-lts.Claims
 claims t =
-    (write-leaf-reads.Asked, write-leaf-reads.Learnt, distribute-reads.Asked, distribute-reads.Learnt, share-reads.Asked, share-reads.Learnt, write-subtree-below t, write-subtree.Post, write-internal-reads.Asked, write-internal-reads.Learnt)
+    (whole-reads.Asked, whole-reads.Learnt, write-leaf-reads.Asked, write-leaf-reads.Learnt, distribute-reads.Asked, distribute-reads.Learnt, share-reads.Asked, share-reads.Learnt, write-subtree-below t, write-subtree.Post, write-internal-reads.Asked, write-internal-reads.Learnt)
 
 -- What is known once the records are distributed.
 module _ (t : ℕ) where
@@ -65,9 +66,10 @@ pub +write-subtree-spec : {M : Type 1} → statement M
     write-subtree.Post
     Inv-loop
     μ-loop
+    (λ c κs. search needs)
     (λ c κs. search (leaf-room, leaf-fits, needs))
     (λ c. search needs)
-    (λ c. leaf-done (c .before .before .before .before .if1 .taken) (c .before .before .write-leaf .ensures))
+    (λ c. search leaf-done)
     (λ c. search needs) (λ c. search needs) (λ c. search needs) (λ c κs. search needs)
     (λ c κs. search share-few)
     (λ c κs. (omega arith, search first-asked))
@@ -93,30 +95,31 @@ pub +write-subtree-spec : {M : Type 1} → statement M
     loop-turn (turn .before .before .loop .inv) (turn .before .loop-test .taken) (turn .share2 .ensures) (c .before .before .before .write-subtree2 .ensures))
     (λ c. search needs)
     (λ c. width-small (c .before .before .loop .inv .distributed))
+    (λ c κs. search needs)
     (λ c κs.
-    let ended = c .before .before in
+    let ended = c .before .before .before in
     let inv = ended .before .loop .inv in
     (root-fits inv (ended .loop-test .left), root-room inv (ended .loop-test .left)))
     (λ c.
-    let ended = c .before .before .before .before .before in
+    let ended = c .before .before .before .before .before .before in
     let inv = ended .before .loop .inv in
     omega (arith, record-is inv (ended .loop-test .left)))
     (λ c.
-    let ended = c .before .before .before .before .before in
+    let ended = c .before .before .before .before .before .before in
     let inv = ended .before .loop .inv in
     omega (arith, record-is inv (ended .loop-test .left)))
     (λ c.
-    let ended = c .before .before .before .before .before in
+    let ended = c .before .before .before .before .before .before in
     let inv = ended .before .loop .inv in
     node-fits (inv .distributed) _ (omega (arith, next-is inv (ended .loop-test .left))))
     (λ c.
-    let ended = c .before .before .before .before .before in
+    let ended = c .before .before .before .before .before .before in
     let inv = ended .before .loop .inv in
     omega (arith, next-least inv (ended .loop-test .left)))
     (λ c. search needs)
     (λ c.
-    let ended = c .before .before .before .before .before in
+    let ended = c .before .before .before .before .before .before in
     let begun = ended .before .before .before .before .before in
     root-done
     (ended .before .loop .inv) (ended .loop-test .left) (begun .before .before .share .ensures)
-    (begun .write-subtree .kept .0) (begun .write-subtree .ensures) (c .before .before .write-internal .ensures)))
+    (begun .write-subtree .kept .0) (begun .write-subtree .ensures) (c .before .before .before .whole2 .ensures) (c .before .before .write-internal .ensures)))
