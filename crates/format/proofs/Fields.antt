@@ -1,27 +1,34 @@
 -- The fields of a node, joined, are its bytes; so what is put of a node that is being filled is final, and the rest is as it was.
-use mathlib.Core.Path.{_≡_, refl, sym, ap, _∙_}
+use mathlib.Core.Path.{_≡_, refl, sym, ap}
 use mathlib.Core.List.{List, [], _∷_, _++_, append-assoc, append-nil}
-use Prim.Native.Nat.{ℕ, zero, suc, _+_, _-_, _*_, _≤_}
+use Prim.Native.Nat.{ℕ, zero, suc, _+_, _*_, _≤_}
 use native.Mathlib.Nat.{zero-mul, suc-mul, add-comm}
 use native.Mathlib.Omega.{arith}
-use lib.ListN.{length, take, drop, replicate, length-append}
-use Rattle.numbers.specs.Numbers.{le, part}
-use Rattle.numbers.specs.Places.{stored, over, joined, filledTo}
+use lib.ListN.{length}
+use Rattle.numbers.specs.Numbers.{part}
+use Rattle.numbers.specs.Places.{joined}
 use Rattle.numbers.proofs.Lists.{part-add}
-use Rattle.numbers.proofs.Numbers.{le-length}
-use Rattle.numbers.proofs.Filling.{joined-append, filled-final, filled-all}
-use Rattle.checksum.specs.Lookup3.{lookup3}
+use Rattle.numbers.proofs.Filling.{joined-append, filled-final, filled-rest}
 use Rattle.plan.specs.Tree.{Kids, last, more, Tree, size, nodes}
-use Rattle.format.specs.Bytes.{leafSignature, internalSignature, summed, padded, pointerBytes, pointer, pointers, recordRange, leafBytes, ownRecords, internalBytes}
-use Rattle.format.specs.Fields.{frontFields, endFields, withEnd, recordFields, pointerFields, allPointerFields, leafFields, ownFields, internalFields}
+use Rattle.format.specs.Bytes.{summed, padded, pointerBytes, pointer, pointers, recordRange, leafBytes, ownRecords, internalBytes}
+use Rattle.format.specs.Fields.{frontFields, endFields, withEnd, recordFields, pointerFields, allPointerFields, leafFields, ownFields, internalFields, OnePass}
 use Rattle.format.specs.declared.Request.{Request}
-use Rattle.format.proofs.Lengths.{length-summed}
+use Rattle.format.proofs.Lengths.{length-summed, length-padded}
 
 -- A node's contents with their end are the node.
 pub end-joined : (ns : ℕ) (fields : List (List ℕ)) → joined (withEnd ns fields) ≡ padded ns (joined fields)
 unfolding withEnd endFields padded joined summed
 end-joined ns fields =
     rw (joined-append fields (endFields ns (joined fields)), length-summed, append-nil) (sym (append-assoc (joined fields) _ _))
+
+-- Every byte of a node is in one of its fields, and in one only: they are as long together as the node.
+pub end-covers : (ns : ℕ) (fields : List (List ℕ)) → length (joined fields) + 4 ≤ ns → length (joined (withEnd ns fields)) ≡ ns
+end-covers ns fields h = rw end-joined (length-padded ns (joined fields) (omega arith))
+
+-- What is final and what is still lent, of any fields that make up the final bytes.
+one-pass : (fields : List (List ℕ)) (final lent : List ℕ) → joined fields ≡ final → OnePass fields final lent
+one-pass fields final lent e =
+    record { done = λ k. rw (← e) (filled-final fields lent k); rest = λ k. filled-rest fields lent k }
 
 front-joined : (signature : List ℕ) (type : ℕ) (fields : List (List ℕ))
     → joined (frontFields signature type ++ fields) ≡ signature ++ (0 ∷ type ∷ joined fields)
@@ -71,14 +78,10 @@ module _ (q : Request) (recs : List ℕ) where
   unfolding internalFields internalBytes
   internal-joined d ts j r = rw (end-joined, front-joined, joined-append, own-joined, pointers-joined)
 
-  -- Wherever a field ends, the bytes up to there are those of the finished node.
-  module _ (k : ℕ) (lent : List ℕ) where
-    pub leaf-final : (n r : ℕ) →
-        let done = length (joined (take k (leafFields q recs n r))) in
-        take done (filledTo k (leafFields q recs n r) lent) ≡ take done (padded ns (leafBytes q recs n r))
-    leaf-final n r = rw (← leaf-joined) (filled-final (leafFields q recs n r) lent k)
+  -- Document 02's claim of each node.
+  pub leaf-one-pass : (n r : ℕ) (lent : List ℕ) → OnePass (leafFields q recs n r) (padded ns (leafBytes q recs n r)) lent
+  leaf-one-pass n r lent = one-pass (leafFields q recs n r) _ lent (leaf-joined n r)
 
-    pub internal-final : (d : ℕ) (ts : Kids (Tree d)) (j r : ℕ) →
-        let done = length (joined (take k (internalFields q recs d ts j r))) in
-        take done (filledTo k (internalFields q recs d ts j r) lent) ≡ take done (padded ns (internalBytes q recs d ts j r))
-    internal-final d ts j r = rw (← internal-joined) (filled-final (internalFields q recs d ts j r) lent k)
+  pub internal-one-pass : (d : ℕ) (ts : Kids (Tree d)) (j r : ℕ) (lent : List ℕ)
+      → OnePass (internalFields q recs d ts j r) (padded ns (internalBytes q recs d ts j r)) lent
+  internal-one-pass d ts j r lent = one-pass (internalFields q recs d ts j r) _ lent (internal-joined d ts j r)

@@ -1,11 +1,12 @@
 -- A node as its fields in order, from the signature to the zeros after the checksum: from the HDF5 File Format Specification, as in Bytes.antt.
 -- What a node is while it is filled (document 02, "Three") is `filledTo` of these.
 use Prim.Native.Nat.{ℕ, zero, suc, _+_, _-_, _*_}
+use mathlib.Core.Path.{_≡_}
 use mathlib.Core.List.{List, [], _∷_, _++_}
-use lib.ListN.{length, replicate}
+use lib.ListN.{length, take, drop, replicate}
 use Rattle.checksum.specs.Lookup3.{lookup3}
 use Rattle.numbers.specs.Numbers.{le, part}
-use Rattle.numbers.specs.Places.{joined}
+use Rattle.numbers.specs.Places.{joined, filledTo}
 use Rattle.node_info.specs.Capacity.{countWidth, totalWidth}
 use Rattle.plan.specs.Tree.{Kids, last, more, Tree, count, size, below, nodes}
 use Rattle.format.specs.Bytes.{leafSignature, internalSignature, address}
@@ -62,3 +63,9 @@ module _ (q : Request) (recs : List ℕ) where
       withEnd
       (q .geometry .«node_size»)
       (frontFields internalSignature (q .«tree_type») ++ (ownFields d ts r ++ allPointerFields q d ts j))
+
+-- Document 02, "Three", of a node with these fields, filled in what was lent: wherever a field ends, be it the last of the first k, the node's
+-- bytes up to there are final, and the rest are those lent.
+pub record OnePass (fields : List (List ℕ)) (final lent : List ℕ) : Type 0 where
+  pub done : (k : ℕ) → let end = length (joined (take k fields)) in take end (filledTo k fields lent) ≡ take end final
+  pub rest : (k : ℕ) → let end = length (joined (take k fields)) in drop end (filledTo k fields lent) ≡ drop end lent
