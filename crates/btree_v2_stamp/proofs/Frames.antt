@@ -93,11 +93,11 @@ module _ (o : List ℕ) (used ns k : ℕ) where
       sum-put : d ≡ stored o used (le 4 sum)
       sum-put = rw (hd, put-fits o used (le 4 sum) four)
 
-      pub stamp-sum : k < 2 → 1 ≤ k → d ≡ stamped o used ns k
+      pub stamp-sum : k ≤ 1 → 1 ≤ k → d ≡ stamped o used ns k
       unfolding endFields joined
       stamp-sum m n = let e : k ≡ 1 = omega arith in rw (stamped-is, e, ← hs, append-nil) sum-put
 
-      pub stamp-put : (z : List ℕ) → 2 ≤ k → z ≡ replicate (length (part d (used + 4) (ns - (used + 4)))) 0
+      pub stamp-put : (z : List ℕ) → 1 < k → z ≡ replicate (length (part d (used + 4) (ns - (used + 4)))) 0
           → putMid (used + 4) (ns - (used + 4)) d z ≡ stamped o used ns k
       unfolding endFields joined
       stamp-put z m hz =

@@ -72,7 +72,7 @@ pub fn stamp(node: &mut [u8], used: usize, node_size: usize, budget: usize)
     }
     let sum = checksum::jenkins_lookup3(&node[..used]);
     numbers::write_le(node, used, sum as u64, 4);
-    if budget < 2 {
+    if budget <= 1 {
         return;
     }
     clear(&mut node[used + 4..node_size]);

@@ -9,11 +9,11 @@ put-records-spec =
     tie.close
     (tie.spec
     (λ c κs. search needs)
-    (λ c. search records-bytes-fit)
+    (λ c. search (records-bytes-fit, needs))
     (λ c. search needs)
-    (λ c. search records-end-fits)
+    (λ c. search (records-end-fits, needs))
     (λ c. search needs) (λ c. search needs)
-    (λ c. search records-some)
+    (λ c. search (records-some, needs))
     (λ c κs. search needs)
     (λ c. search needs) (λ c κs. search needs) (λ c. search needs)
     (λ c. search records-put))
