@@ -21,16 +21,16 @@ use Rattle.numbers.proofs.Filling.{joined-append, joined-one}
 use Rattle.numbers.proofs.Numbers.{le-length, lt-or-le}
 use Rattle.format.specs.declared.Request.{Request}
 use Rattle.node_info.specs.Capacity.{childPointerSize}
-use Rattle.format.specs.Bytes.{address}
+use Rattle.format.specs.Bytes.{internalSignature, address}
 use Rattle.format.specs.Fields.{frontFields, endFields, withEnd, recordFields}
 use Rattle.format.proofs.Fields.{records-joined, records-many}
-use Rattle.btree_v2_stamp.specs.Stamped.{fronted, stamped}
+use Rattle.btree_v2_stamp.specs.Stamped.{stamped}
 use Rattle.btree_v2_write.specs.declared.filling.Progress.{Progress}
 use Rattle.btree_v2_write.specs.declared.node.Child.{Child}
 use Rattle.btree_v2_write.specs.declared.node.InternalNode.{InternalNode}
-use Rattle.btree_v2_write.specs.Filled.{Filled}
+use Rattle.btree_v2_write.specs.Filled.{Filled, start}
 use Rattle.btree_v2_write.specs.Shares.{twoSizes, withOne, recordsAfter, pointerSize, pointerTo, pointersTo, nodesOfAll, PointerFits, PointersFit, InternalNodeFits, childShares, childrenOf, contentFields, internalNodeFields}
-use Rattle.btree_v2_write.proofs.Puts.{filled-nothing, filled-then, filled-long, front-filled, node-filled}
+use Rattle.btree_v2_write.proofs.Puts.{filled-nothing, filled-then, filled-long, front-place, node-filled}
 
 pub pick-lt : {A : Type 0} (i e : ℕ) (x y : A) → i < e → x ≡ pick (ltb i e) x y
 pick-lt i e x y h = rw (lt-ltb i e h)
@@ -349,15 +349,20 @@ module _ (q : Request) (recs : List ℕ) (x : InternalNode) (fits : InternalNode
     unfolding contentFields
     contents-put d e mid end f g = filled-then (omega (arith, fits .bytes)) f g
 
-  pub internal-filled : (o d e z : List ℕ) (budget : ℕ) (front end : Progress) → q .geometry .«node_size» ≤ length o
-      → d ≡ fronted o (66 ∷ 84 ∷ 73 ∷ 78 ∷ []) (q .«tree_type») budget → front .at ≡ 6 → front .left ≡ budget - 3
-      → Filled d e front (contentFields q recs x) end → z ≡ stamped e (end .at) (q .geometry .«node_size») (end .left)
-      → z ≡ filledTo budget (internalNodeFields q recs x) o
-  unfolding internalNodeFields
-  internal-filled o d e z budget front end h hd at left f hz =
-      let first = front-filled o d 73 78 (q .«tree_type») budget front (omega (arith, fits .bytes)) hd at left in
-      node-filled o e z budget (q .geometry .«node_size») end _ (filled-then zero≤ first f)
-      (omega (arith, f .place, contents-long, fits .bytes)) h hz
+  module _ (o d : List ℕ) (budget : ℕ) (front : Progress) (f : Filled o d (start budget) (frontFields internalSignature (q .«tree_type»)) front) where
+    pub internal-front : front .at ≡ 6
+    internal-front = front-place o d 73 78 (q .«tree_type») budget front f
+
+    module _ (h : q .geometry .«node_size» ≤ length o) where
+      pub internal-room : q .geometry .«node_size» ≤ length d
+      internal-room = let long = filled-long f (omega (arith, internal-front, fits .bytes)) in omega (arith, long)
+
+      pub internal-filled : (e z : List ℕ) (end : Progress) → Filled d e front (contentFields q recs x) end
+          → z ≡ stamped e (end .at) (q .geometry .«node_size») (end .left) → z ≡ filledTo budget (internalNodeFields q recs x) o
+      unfolding internalNodeFields
+      internal-filled e z end g hz =
+          node-filled o e z budget (q .geometry .«node_size») end _ (filled-then zero≤ f g)
+          (omega (arith, internal-front, g .place, contents-long, fits .bytes)) h hz
 
   -- A node has fewer fields than the budget of a whole one.
   pub internal-few : x .kept < 2 ^ 24 → length (internalNodeFields q recs x) ≤ 2 ^ 32

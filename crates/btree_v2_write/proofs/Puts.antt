@@ -20,7 +20,7 @@ use Rattle.format.proofs.Fields.{records-joined, records-many}
 use Rattle.btree_v2_stamp.specs.Stamped.{fronted, stamped}
 use Rattle.btree_v2_stamp.proofs.Frames.{fronted-is, node-stamped}
 use Rattle.btree_v2_write.specs.declared.filling.Progress.{Progress}
-use Rattle.btree_v2_write.specs.Filled.{Filled}
+use Rattle.btree_v2_write.specs.Filled.{Filled, start}
 
 -- No field; fields and then others.
 pub filled-nothing : (o : List ℕ) (p : Progress) → Filled o o p [] p
@@ -101,16 +101,22 @@ module _ (p : Progress) (recs : List ℕ) (size n r m : ℕ) (fewer : m ≡ min 
             left = rw records-many left;
           }
 
--- A node's front.
-pub front-filled : (o d : List ℕ) (third fourth type budget : ℕ) (p : Progress) → 6 ≤ length o
-    → d ≡ fronted o (66 ∷ 84 ∷ third ∷ fourth ∷ []) type budget → p .at ≡ 6 → p .left ≡ budget - 3
-    → Filled o d (record { at = 0; left = budget }) (frontFields (66 ∷ 84 ∷ third ∷ fourth ∷ []) type) p
-unfolding joined frontFields
-front-filled o d third fourth type budget p h e at left =
-    record { bytes = rw (e, fronted-is o third fourth type budget h); place = at; left = left }
+-- `put_front`, and the place after it.
+module _ (o d : List ℕ) (third fourth type budget : ℕ) (p : Progress) where
+  abbrev signature : List ℕ
+  signature = 66 ∷ 84 ∷ third ∷ fourth ∷ []
+
+  pub front-put : 6 ≤ length o → d ≡ fronted o signature type budget → p .at ≡ 0 + 6 → p .left ≡ budget - 3
+      → Filled o d (start budget) (frontFields signature type) p
+  unfolding joined frontFields
+  front-put h e at left = record { bytes = rw (e, fronted-is o third fourth type budget h); place = at; left = left }
+
+  pub front-place : Filled o d (start budget) (frontFields signature type) p → p .at ≡ 6
+  unfolding joined frontFields
+  front-place f = f .place
 
 -- A node's end, after its fields.
-pub node-filled : (o e z : List ℕ) (budget ns : ℕ) (p : Progress) (fields : List (List ℕ)) → Filled o e (record { at = 0; left = budget }) fields p
+pub node-filled : (o e z : List ℕ) (budget ns : ℕ) (p : Progress) (fields : List (List ℕ)) → Filled o e (start budget) fields p
     → p .at + 4 ≤ ns → ns ≤ length o → z ≡ stamped e (p .at) ns (p .left) → z ≡ filledTo budget (withEnd ns fields) o
 node-filled o e z budget ns p fields f h l hz =
     rw filled-stored (node-stamped o e z fields budget (p .at) ns (p .left) (f .bytes) (rw zero-add at (f .place)) (f .left) h l hz)

@@ -1,5 +1,5 @@
-// Filling one node: a leaf or an internal node, in its place of the image. Fields are put front to back, up to a budget of fields; the contracts
-// hold for every budget, so they say what the node is wherever a field ends.
+// Filling one node: a leaf or an internal node, in its place of the image. Its fields are put front to back, as many as a budget has; a contract
+// says for every budget what the node then is.
 
 ghost use mathlib.Core.Path.{_≡_};
 ghost use Prim.Native.Nat.{_+_, _*_, _^_, _≤_, _<_};
@@ -7,6 +7,7 @@ ghost use lib.ListN.{length, take};
 ghost use lib.Dec.{ltb};
 ghost use Rattle.numbers.specs.Numbers.{pick};
 ghost use Rattle.numbers.specs.Places.{stored, joined, filledTo};
+ghost use Rattle.format.specs.Bytes.{prefixSize};
 ghost use Rattle.format.specs.Fields.{leafFields};
 ghost use Rattle.btree_v2_write.specs.Filled.{Filled};
 ghost use Rattle.btree_v2_write.specs.Shares.{twoSizes, withOne, recordsAfter, pointerTo, pointersTo, childrenOf, PointerFits, PointersFit, InternalNodeFits, contentFields, internalNodeFields};
@@ -20,10 +21,9 @@ fn fill_leaf(node: &mut [u8], request: Request, records: &[u8], n: usize, r: usi
     ensures { λ _. ⌜ now (node .exit) ≡ filledTo budget (leafFields request (now (records .entry)) n r) (now (node .entry)) ⌝ }
 {
     let geometry = request.geometry;
-    btree_v2_stamp::put_front(node, b'L', b'F', request.tree_type, budget);
-    let front = filling::after_front(budget);
+    let front = filling::put_front(node, b'L', b'F', request.tree_type, budget);
     let end = filling::put_records(node, front, records, geometry.record_size as usize, n, r);
-    btree_v2_stamp::stamp(node, end.at, geometry.node_size as usize, end.left);
+    filling::put_end(node, end, geometry.node_size as usize);
 }
 
 // Writes a leaf as node j of the image: its first `budget` fields.
@@ -60,11 +60,11 @@ pub(crate) fn share(base: usize, extra: usize, i: usize) -> usize
     if i < extra { base + 1 } else { base }
 }
 
-// Puts the node's own records, `kept` of them, as the next fields. The records below the node begin with record r; a child has `base` records,
+// Puts the node's own records, `kept` of them, as the next fields, those that may still be put. The records below the node begin with record r; a child has `base` records,
 // the first `extra` one more.
 fn put_own_records(
     node: &mut [u8],
-    to: Progress,
+    from: Progress,
     record_size: usize,
     records: &[u8],
     kept: usize,
@@ -72,19 +72,19 @@ fn put_own_records(
     extra: usize,
     r: usize,
 ) -> Progress
-    requires { ⌜ (base < 2 ^ 32) × (to .at + kept * «record_size» ≤ length (now node)) × ((r + withOne (twoSizes kept extra (base + 1) base)) * «record_size» ≤ length (now records)) × (0 < «record_size») ⌝ }
-    ensures { λ p. ⌜ Filled (now (node .entry)) (now (node .exit)) to (recordsAfter «record_size» (now (records .entry)) (twoSizes kept extra (base + 1) base) r) p ⌝ }
+    requires { ⌜ (base < 2 ^ 32) × (from .at + kept * «record_size» ≤ length (now node)) × ((r + withOne (twoSizes kept extra (base + 1) base)) * «record_size» ≤ length (now records)) × (0 < «record_size») ⌝ }
+    ensures { λ to. ⌜ Filled (now (node .entry)) (now (node .exit)) from (recordsAfter «record_size» (now (records .entry)) (twoSizes kept extra (base + 1) base) r) to ⌝ }
 {
-    let mut to = to;
+    let mut reached = from;
     let mut next_record = r;
     let mut i = 0;
     while i < kept {
         let after = next_record + share(base, extra, i);
-        to = filling::put_records(node, to, records, record_size, 1, after);
+        reached = filling::put_records(node, reached, records, record_size, 1, after);
         next_record = after + 1;
         i += 1;
     }
-    to
+    reached
 }
 
 // The address of node j.
@@ -118,30 +118,36 @@ pub(crate) struct InternalNode {
     pub(crate) first_record: usize,
 }
 
-// Puts address, record count and total of the pointer to a child whose first node is node j as the next fields, the two counts of these sizes.
+// Puts address, record count and total of the pointer to a child as the next fields, those that may still be put; the child's first node is node
+// j, and the two counts have these sizes.
 fn put_pointer(
     node: &mut [u8],
     request: Request,
-    to: Progress,
+    from: Progress,
     child: Child,
     count_size: usize,
     total_size: usize,
     j: usize,
 ) -> Progress
-    requires { ⌜ PointerFits request (length (now node)) (to .at) child «count_size» «total_size» j ⌝ }
-    ensures { λ p. ⌜ Filled (now (node .entry)) (now (node .exit)) to (pointerTo request «count_size» «total_size» child j) p ⌝ }
+    requires { ⌜ PointerFits request (length (now node)) (from .at) child «count_size» «total_size» j ⌝ }
+    ensures { λ to. ⌜ Filled (now (node .entry)) (now (node .exit)) from (pointerTo request «count_size» «total_size» child j) to ⌝ }
 {
     let geometry = request.geometry;
     let address = node_address(request, j + (child.nodes - 1));
-    let to = filling::put_number(node, to, address, geometry.offset_size as usize);
-    let to = filling::put_number(node, to, child.records, count_size);
-    filling::put_number(node, to, child.total, total_size)
+    let addressed = filling::put_number(node, from, address, geometry.offset_size as usize);
+    let counted = filling::put_number(node, addressed, child.records, count_size);
+    filling::put_number(node, counted, child.total, total_size)
 }
 
-// Puts the pointers to a node's children as the next fields.
-fn put_pointers(node: &mut [u8], request: Request, to: Progress, internal: InternalNode) -> Progress
-    requires { ⌜ PointersFit request (length (now node)) (to .at) internal ⌝ }
-    ensures { λ p. ⌜ Filled (now (node .entry)) (now (node .exit)) to (pointersTo request (internal .«count_size») (internal .«total_size») (childrenOf internal) (internal .«first_node»)) p ⌝ }
+// Puts the pointers to a node's children as the next fields, those that may still be put.
+fn put_pointers(
+    node: &mut [u8],
+    request: Request,
+    from: Progress,
+    internal: InternalNode,
+) -> Progress
+    requires { ⌜ PointersFit request (length (now node)) (from .at) internal ⌝ }
+    ensures { λ to. ⌜ Filled (now (node .entry)) (now (node .exit)) from (pointersTo request (internal .«count_size») (internal .«total_size») (childrenOf internal) (internal .«first_node»)) to ⌝ }
 {
     let kept = internal.kept;
     let extra = internal.extra;
@@ -149,19 +155,19 @@ fn put_pointers(node: &mut [u8], request: Request, to: Progress, internal: Inter
     let small = internal.small;
     let count_size = internal.count_size;
     let total_size = internal.total_size;
-    let mut to = to;
+    let mut reached = from;
     let mut next = internal.first_node;
     let mut i = 0;
     while i <= kept {
         let child = one_of(extra, large, small, i);
-        to = put_pointer(node, request, to, child, count_size, total_size, next);
+        reached = put_pointer(node, request, reached, child, count_size, total_size, next);
         next += child.nodes;
         i += 1;
     }
-    to
+    reached
 }
 
-// Puts a node's own records and the pointers to its children as the next fields, which are those after its front.
+// Puts what comes after a node's front, its own records and the pointers to its children, those fields that may still be put.
 fn put_contents(
     node: &mut [u8],
     request: Request,
@@ -169,8 +175,8 @@ fn put_contents(
     front: Progress,
     internal: InternalNode,
 ) -> Progress
-    requires { ⌜ InternalNodeFits request (length (now records)) internal ⌝ ∗ ⌜ (request .geometry .«node_size» ≤ length (now node)) × (front .at ≡ 6) ⌝ }
-    ensures { λ p. ⌜ Filled (now (node .entry)) (now (node .exit)) front (contentFields request (now (records .entry)) internal) p ⌝ }
+    requires { ⌜ InternalNodeFits request (length (now records)) internal ⌝ ∗ ⌜ (request .geometry .«node_size» ≤ length (now node)) × (front .at ≡ prefixSize) ⌝ }
+    ensures { λ to. ⌜ Filled (now (node .entry)) (now (node .exit)) front (contentFields request (now (records .entry)) internal) to ⌝ }
 {
     let geometry = request.geometry;
     let own = put_own_records(
@@ -198,10 +204,9 @@ fn fill_internal(
     ensures { λ _. ⌜ now (node .exit) ≡ filledTo budget (internalNodeFields request (now (records .entry)) internal) (now (node .entry)) ⌝ }
 {
     let geometry = request.geometry;
-    btree_v2_stamp::put_front(node, b'I', b'N', request.tree_type, budget);
-    let front = filling::after_front(budget);
+    let front = filling::put_front(node, b'I', b'N', request.tree_type, budget);
     let end = put_contents(node, request, records, front, internal);
-    btree_v2_stamp::stamp(node, end.at, geometry.node_size as usize, end.left);
+    filling::put_end(node, end, geometry.node_size as usize);
 }
 
 // Writes an internal node as node j of the image: its first `budget` fields.
