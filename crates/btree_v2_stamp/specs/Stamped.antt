@@ -1,5 +1,5 @@
--- What stands before and after the contents of a node: signature, version and type; the checksum, and zeros to the node size. A budget says how
--- many of these fields are put.
+-- What stands before and after the contents of a node, or of the header: signature, version and type; the checksum, and zeros to the node size. A
+-- budget says how many of these fields are put.
 use Prim.Native.Nat.{ℕ, _+_}
 use mathlib.Core.Bool.{_&&_}
 use mathlib.Core.List.{List}
@@ -7,12 +7,13 @@ use lib.Dec.{leb}
 use lib.ListN.{length, take}
 use Rattle.numbers.specs.Numbers.{pick}
 use Rattle.numbers.specs.Places.{stored, joined, filledTo}
+use Rattle.format.specs.Bytes.{prefixSize}
 use Rattle.format.specs.Fields.{frontFields, endFields}
 
 -- The node with the first `budget` fields of its front, where six bytes are there; else as it was.
 unfoldable pub fronted : List ℕ → List ℕ → ℕ → ℕ → List ℕ
 fronted node signature type budget =
-    pick (leb 6 (length node)) (filledTo budget (frontFields signature type) node) node
+    pick (leb prefixSize (length node)) (filledTo budget (frontFields signature type) node) node
 
 -- The node with, after its first `used` bytes, the first `budget` of their checksum and the zeros from there to `size`, where that much is
 -- there; else as it was.

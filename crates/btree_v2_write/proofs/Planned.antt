@@ -20,9 +20,9 @@ use Rattle.plan.proofs.Lists.{sumOf, AllOf, all-of-map}
 use Rattle.plan.proofs.Plans.{plan-size, plan-nodes}
 use Rattle.plan.proofs.Thin.{thin-children, thin-pos}
 use Rattle.numbers.specs.Places.{joined}
-use Rattle.format.specs.Bytes.{kidsImage, image}
-use Rattle.format.specs.Fields.{pointerFields, allPointerFields, ownFields, internalFields}
-use Rattle.format.proofs.Fields.{internal-joined}
+use Rattle.format.specs.Bytes.{padded, internalBytes, kidsImage, image}
+use Rattle.format.specs.Fields.{pointerFields, allPointerFields, ownFields, internalFields, FinalThenLent}
+use Rattle.format.proofs.Fields.{internal-joined, internal-final-then-lent}
 use Rattle.format.specs.declared.Request.{Request}
 use Rattle.btree_v2_write.specs.declared.node.Child.{Child}
 use Rattle.btree_v2_write.specs.declared.node.InternalNode.{InternalNode}
@@ -192,6 +192,14 @@ module _ (q : Request) (recs : List ℕ) (d n : ℕ) (thick : thin (capacities q
         let own = records-kids q recs d (children cap n) (children-some cap n) sized (x .«first_record») in
         let below = pointers-kids q recs d (x .«count_size») (x .«total_size») (is .counts) (is .total) (children cap n) (children-some cap n) (x .«first_node») in
         rw (shares-are, children-are, own, below)
+
+    -- So what document 02 says of a node that is being filled holds of what the code puts.
+    pub planned-final-then-lent : (lent : List ℕ)
+        → FinalThenLent
+        (internalNodeFields q recs x)
+        (padded (q .geometry .«node_size») (internalBytes q recs d (kidsOf (subtree q d) (children cap n)) (x .«first_node») (x .«first_record»)))
+        lent
+    planned-final-then-lent lent = rw fields-are (internal-final-then-lent q recs d _ (x .«first_node») (x .«first_record») lent)
 
     -- The subtree's image: its children's, and its root's.
     pub image-is : subtreeImage q recs (suc d) n (x .«first_node») (x .«first_record»)

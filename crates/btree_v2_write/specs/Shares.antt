@@ -66,12 +66,13 @@ pub record PointersFit (q : Request) (length at : ℕ) (x : InternalNode) : Type
   pub short : q .start + (x .«first_node» + nodesOfAll (childrenOf x)) * q .geometry .«node_size» < 2 ^ 64
   pub few : x .kept < 2 ^ 32
 
--- An internal node's fields: those between its front and its end, its own records and then its pointers; and all.
+-- The fields of an internal node between its front and its end: its own records, and then its pointers.
 unfoldable pub contentFields : Request → List ℕ → InternalNode → List (List ℕ)
 contentFields q recs x =
     recordsAfter (q .geometry .«record_size») recs (childShares x) (x .«first_record»)
     ++ pointersTo q (x .«count_size») (x .«total_size») (childrenOf x) (x .«first_node»)
 
+-- All its fields.
 unfoldable pub internalNodeFields : Request → List ℕ → InternalNode → List (List ℕ)
 internalNodeFields q recs x =
     withEnd (q .geometry .«node_size») (frontFields internalSignature (q .«tree_type») ++ contentFields q recs x)

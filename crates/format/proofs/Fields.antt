@@ -9,11 +9,12 @@ use Rattle.numbers.specs.Numbers.{part}
 use Rattle.numbers.specs.Places.{joined}
 use Rattle.numbers.proofs.Lists.{part-add}
 use Rattle.numbers.proofs.Filling.{joined-append, filled-final, filled-rest}
-use Rattle.plan.specs.Tree.{Kids, last, more, Tree, size, nodes}
+use Rattle.plan.specs.Tree.{Kids, last, more, Tree, sumKids, between, count, size, nodes}
 use Rattle.format.specs.Bytes.{summed, padded, pointerBytes, pointer, pointers, recordRange, leafBytes, ownRecords, internalBytes}
-use Rattle.format.specs.Fields.{frontFields, endFields, withEnd, recordFields, pointerFields, allPointerFields, leafFields, ownFields, internalFields, OnePass}
+use Rattle.format.specs.Fields.{frontFields, endFields, withEnd, recordFields, pointerFields, allPointerFields, leafFields, ownFields, internalFields, FinalThenLent}
+use Rattle.format.specs.Fit.{Fit}
 use Rattle.format.specs.declared.Request.{Request}
-use Rattle.format.proofs.Lengths.{length-summed, length-padded}
+use Rattle.format.proofs.Lengths.{Room, length-summed, length-padded, length-leaf, length-internal}
 
 -- A node's contents with their end are the node.
 pub end-joined : (ns : ℕ) (fields : List (List ℕ)) → joined (withEnd ns fields) ≡ padded ns (joined fields)
@@ -21,14 +22,10 @@ unfolding withEnd endFields padded joined summed
 end-joined ns fields =
     rw (joined-append fields (endFields ns (joined fields)), length-summed, append-nil) (sym (append-assoc (joined fields) _ _))
 
--- Every byte of a node is in one of its fields, and in one only: they are as long together as the node.
-pub end-covers : (ns : ℕ) (fields : List (List ℕ)) → length (joined fields) + 4 ≤ ns → length (joined (withEnd ns fields)) ≡ ns
-end-covers ns fields h = rw end-joined (length-padded ns (joined fields) (omega arith))
-
 -- What is final and what is still lent, of any fields that make up the final bytes.
-one-pass : (fields : List (List ℕ)) (final lent : List ℕ) → joined fields ≡ final → OnePass fields final lent
-one-pass fields final lent e =
-    record { done = λ k. rw (← e) (filled-final fields lent k); rest = λ k. filled-rest fields lent k }
+pub final-then-lent : (fields : List (List ℕ)) (final lent : List ℕ) → joined fields ≡ final → FinalThenLent fields final lent
+final-then-lent fields final lent e =
+    record { front = λ k. rw (← e) (filled-final fields lent k); rest = λ k. filled-rest fields lent k }
 
 front-joined : (signature : List ℕ) (type : ℕ) (fields : List (List ℕ))
     → joined (frontFields signature type ++ fields) ≡ signature ++ (0 ∷ type ∷ joined fields)
@@ -78,10 +75,20 @@ module _ (q : Request) (recs : List ℕ) where
   unfolding internalFields internalBytes
   internal-joined d ts j r = rw (end-joined, front-joined, joined-append, own-joined, pointers-joined)
 
-  -- Document 02's claim of each node.
-  pub leaf-one-pass : (n r : ℕ) (lent : List ℕ) → OnePass (leafFields q recs n r) (padded ns (leafBytes q recs n r)) lent
-  leaf-one-pass n r lent = one-pass (leafFields q recs n r) _ lent (leaf-joined n r)
+  -- So, in both: the fields are as long together as the node, where it fits its node size.
+  pub leaf-covers : (n r : ℕ) → Room q recs r n → 10 + n * q .geometry .«record_size» ≤ ns → length (joined (leafFields q recs n r)) ≡ ns
+  leaf-covers n r room h = rw leaf-joined (length-padded ns (leafBytes q recs n r) (omega (arith, length-leaf q recs n r room)))
 
-  pub internal-one-pass : (d : ℕ) (ts : Kids (Tree d)) (j r : ℕ) (lent : List ℕ)
-      → OnePass (internalFields q recs d ts j r) (padded ns (internalBytes q recs d ts j r)) lent
-  internal-one-pass d ts j r lent = one-pass (internalFields q recs d ts j r) _ lent (internal-joined d ts j r)
+  pub internal-covers : (d : ℕ) (ts : Kids (Tree d)) (j r : ℕ) → Room q recs r (sumKids (size d) ts + between ts) → Fit (q .geometry) (suc d) ts
+      → length (joined (internalFields q recs d ts j r)) ≡ ns
+  unfolding count
+  internal-covers d ts j r room fit =
+      rw internal-joined (length-padded ns (internalBytes q recs d ts j r) (omega (arith, length-internal q recs d ts j r room, fit .node)))
+
+  -- And what document 02 says of a node that is being filled.
+  pub leaf-final-then-lent : (n r : ℕ) (lent : List ℕ) → FinalThenLent (leafFields q recs n r) (padded ns (leafBytes q recs n r)) lent
+  leaf-final-then-lent n r lent = final-then-lent (leafFields q recs n r) _ lent (leaf-joined n r)
+
+  pub internal-final-then-lent : (d : ℕ) (ts : Kids (Tree d)) (j r : ℕ) (lent : List ℕ)
+      → FinalThenLent (internalFields q recs d ts j r) (padded ns (internalBytes q recs d ts j r)) lent
+  internal-final-then-lent d ts j r lent = final-then-lent (internalFields q recs d ts j r) _ lent (internal-joined d ts j r)

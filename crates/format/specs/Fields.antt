@@ -1,5 +1,5 @@
--- A node as its fields in order, from the signature to the zeros after the checksum: from the HDF5 File Format Specification, as in Bytes.antt.
--- What a node is while it is filled (document 02, "Three") is `filledTo` of these.
+-- A node as its fields in order, from the signature to the zeros after the checksum: from the HDF5 File Format Specification, once more beside
+-- Bytes.antt, so that it is a theorem that they make up the same bytes. A node with its first k fields put (document 02, "Three") is `filledTo k`.
 use Prim.Native.Nat.{ℕ, zero, suc, _+_, _-_, _*_}
 use mathlib.Core.Path.{_≡_}
 use mathlib.Core.List.{List, [], _∷_, _++_}
@@ -64,8 +64,8 @@ module _ (q : Request) (recs : List ℕ) where
       (q .geometry .«node_size»)
       (frontFields internalSignature (q .«tree_type») ++ (ownFields d ts r ++ allPointerFields q d ts j))
 
--- Document 02, "Three", of a node with these fields, filled in what was lent: wherever a field ends, be it the last of the first k, the node's
--- bytes up to there are final, and the rest are those lent.
-pub record OnePass (fields : List (List ℕ)) (final lent : List ℕ) : Type 0 where
-  pub done : (k : ℕ) → let end = length (joined (take k fields)) in take end (filledTo k fields lent) ≡ take end final
+-- Document 02, "Three", of a node whose finished bytes are `final`: where the first k of its fields were put into what was lent, the bytes up to
+-- the end of these fields are final, and the rest are those lent.
+pub record FinalThenLent (fields : List (List ℕ)) (final lent : List ℕ) : Type 0 where
+  pub front : (k : ℕ) → let end = length (joined (take k fields)) in take end (filledTo k fields lent) ≡ take end final
   pub rest : (k : ℕ) → let end = length (joined (take k fields)) in drop end (filledTo k fields lent) ≡ drop end lent
