@@ -1,0 +1,3 @@
+//! Nodes filled in one pass, field after field, as document 02 has it.
+
+mod fields;
