@@ -1,7 +1,7 @@
 //! The stored lists of answers: the libraries give them, and the Rust and the model still do.
 
-use differential::calls::write::OTHER_LENT;
 use differential::calls::By;
+use differential::compare::bytes::UNIFORM;
 use differential::report::{rust_is_there, say};
 use differential::stored::{images, LISTS};
 
@@ -22,7 +22,7 @@ fn lists() {
 
 #[test]
 fn images_in_other_lent_memory() {
-    for before in OTHER_LENT {
+    for before in UNIFORM {
         for by in [By::Rattle, By::Model] {
             images::hold_lent(by, before).expect("the stored images are given");
         }

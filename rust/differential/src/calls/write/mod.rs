@@ -9,7 +9,7 @@ use nuldrafon::{raw, Refusal};
 
 use super::case::{array, Case, Fault};
 use super::typed;
-use crate::compare::bytes::{pattern, same_bytes};
+use crate::compare::bytes::{pattern, same_bytes, UNIFORM};
 use crate::compare::{rust, same, Held};
 use crate::inputs::Writing;
 use crate::model::{self, header_size};
@@ -18,13 +18,11 @@ pub use families::{
     with_several_faults,
 };
 
-/// Records up to this long are also written into buffers that the crate makes, and into others.
+/// Records up to this long are also written into buffers that the crate makes, and into others that
+/// are lent.
 const SHORT: usize = 1 << 16;
 
-/// What every byte of other lent buffers is: no byte is the same in both.
-pub const OTHER_LENT: [u8; 2] = [0xa5, 0x5a];
-
-/// How many bytes longer than needed such buffers are, where the write is accepted.
+/// How many bytes longer than needed those others are, where the write is accepted.
 const LONGER: usize = 9;
 
 /// A write and the lengths of its buffers.
@@ -45,6 +43,23 @@ impl<'a> Draft<'a> {
             header_length: header_size(given.geometry.offset_size, given.length_size),
             image_length: image_size.unwrap_or(64) as usize,
         }
+    }
+
+    /// The C function.
+    pub fn write_to(&self, header: &mut [u8], image: &mut [u8]) -> [u64; 5] {
+        let given = &self.given;
+        raw::write(
+            given.tree_type,
+            given.record_count,
+            given.geometry.record_size,
+            given.geometry.node_size,
+            given.geometry.offset_size,
+            given.length_size,
+            given.start,
+            given.records,
+            header,
+            image,
+        )
     }
 
     /// The last start that fits its field, for an image as long as the buffer; 0 where none does.
@@ -82,19 +97,7 @@ impl Case for Draft<'_> {
     }
 
     fn rattle(&self, [header, image]: &mut Self::Lent) -> Self::Answer {
-        let given = &self.given;
-        raw::write(
-            given.tree_type,
-            given.record_count,
-            given.geometry.record_size,
-            given.geometry.node_size,
-            given.geometry.offset_size,
-            given.length_size,
-            given.start,
-            given.records,
-            header,
-            image,
-        )
+        self.write_to(header, image)
     }
 
     fn typed(&self, [header, image]: &mut Self::Lent) -> Self::Answer {
@@ -124,7 +127,7 @@ impl Case for Draft<'_> {
             return Ok(());
         }
         self.hold_vectors(ours, lent)?;
-        OTHER_LENT
+        UNIFORM
             .into_iter()
             .try_for_each(|byte| self.hold_other_lent(byte, ours, lent))
     }
