@@ -2,7 +2,7 @@
 
 use super::{Log, Then};
 
-/// None: the call is not made.
+/// None.
 pub fn watched(_: &mut [u8], _: Then, _: impl FnOnce(&mut [u8])) -> Option<Log> {
     None
 }

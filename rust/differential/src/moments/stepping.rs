@@ -11,6 +11,9 @@ use super::{Change, Log, Then};
 
 const SIGTRAP: c_int = 5;
 
+/// What libc returns where a signal can have no handler.
+const SIG_ERR: usize = usize::MAX;
+
 extern "C" {
     /// libc's: says who handles a signal from now on, and returns who did.
     fn signal(number: c_int, handler: usize) -> usize;
@@ -87,8 +90,7 @@ extern "C" fn after_instruction(_: c_int) {
     }
 }
 
-/// Makes a call on memory and watches that memory; none where no signal came. The call is made in
-/// either case.
+/// Makes a call on memory and watches that memory; none where no signal came.
 pub fn watched(memory: &mut [u8], then: Then, call: impl FnOnce(&mut [u8])) -> Option<Log> {
     let _turn = TURN.lock().unwrap_or_else(|poisoned| poisoned.into_inner());
     let before = memory.to_vec();
@@ -98,14 +100,14 @@ pub fn watched(memory: &mut [u8], then: Then, call: impl FnOnce(&mut [u8])) -> O
     let handler: extern "C" fn(c_int) = after_instruction;
     // SAFETY: the handler has the type that the signal wants, and uses nothing but the watch.
     let others = unsafe { signal(SIGTRAP, handler as usize) };
-    stepped(|| {
+    if others != SIG_ERR {
         // SAFETY: these are the pointer and the length of the slice, which is not used meanwhile.
         // The handler reads and puts back the same bytes, as they are in memory, between two
         // instructions of the call.
-        call(unsafe { slice::from_raw_parts_mut(place, length) });
-    });
-    // SAFETY: the handler is the one of before.
-    unsafe { signal(SIGTRAP, others) };
+        stepped(|| call(unsafe { slice::from_raw_parts_mut(place, length) }));
+        // SAFETY: the handler is the one of before.
+        unsafe { signal(SIGTRAP, others) };
+    }
     WATCH.store(ptr::null_mut(), Ordering::Relaxed);
     // SAFETY: the pointer came from a box, and the handler has it no more.
     let watch = unsafe { Box::from_raw(watch) };
