@@ -6,6 +6,7 @@ pub mod checksum;
 pub mod compare;
 pub mod inputs;
 pub mod model;
+pub mod moments;
 pub mod random;
 pub mod report;
 pub mod stored;

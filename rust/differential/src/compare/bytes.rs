@@ -3,6 +3,9 @@
 use super::Held;
 use crate::random::Random;
 
+/// What every byte of other buffers to lend is: no byte is the same in both.
+pub const UNIFORM: [u8; 2] = [0xa5, 0x5a];
+
 /// The byte that a lent buffer has at a place.
 fn patterned(at: usize) -> u8 {
     (at as u8).wrapping_mul(29) ^ 0xa5

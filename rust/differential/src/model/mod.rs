@@ -4,6 +4,7 @@
 
 mod base;
 mod collect;
+mod fields;
 mod find;
 mod header;
 mod leaf;
@@ -16,6 +17,7 @@ mod table;
 mod write;
 
 pub use collect::{collect, Collected, Counts};
+pub use fields::{filled_to, joined, Fields};
 pub use find::{find, fits, key_of, list, Found, Listed};
 pub use header::parse;
 pub use leaf::leaf_record;
@@ -25,4 +27,4 @@ pub use numbers::{largest, width};
 pub use plan::{plan, Node, Plan, MOST_RECORDS};
 pub use refusal::{Answer, Refusal};
 pub use table::{table, Geometry, Table, LEVEL_LIMIT};
-pub use write::{header_size, write};
+pub use write::{fields_of_nodes, header_size, write};

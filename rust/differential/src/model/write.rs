@@ -1,12 +1,12 @@
 //! The writing call: the header and the node image.
 
+use super::fields::{internal_fields, joined, leaf_fields, number, Fields, VERSION};
 use super::lookup3::lookup3;
 use super::numbers::{largest, put};
 use super::plan::{check_offset_size, children, field_size, planned, Plan};
 use super::refusal::{self, require, Answer};
 use crate::inputs::Writing;
 
-const VERSION: u8 = 0;
 const SPLIT_PERCENT: u8 = 100;
 const MERGE_PERCENT: u8 = 40;
 
@@ -17,14 +17,10 @@ pub fn header_size(offset_size: u8, length_size: u8) -> usize {
 
 pub fn write(given: &Writing, header: &mut [u8], image: &mut [u8]) -> Answer<Plan> {
     let plan = check(given, header.len(), image.len())?;
-    let mut writer = Writer {
-        given,
-        plan: &plan,
-        records: given.records,
-        image,
-        next: 0,
-    };
-    let root = writer.subtree(given.record_count, plan.depth);
+    let root = walk(given, &plan, |place, fields| {
+        let node = joined(&fields);
+        image[place..place + node.len()].copy_from_slice(&node);
+    });
     let bytes = header_bytes(given, plan.depth, &root);
     header[..bytes.len()].copy_from_slice(&bytes);
     Ok(plan)
@@ -61,6 +57,26 @@ fn check(given: &Writing, header: usize, image: usize) -> Answer<Plan> {
     Ok(plan)
 }
 
+/// The fields of each node that a write puts into its image, in the order of the nodes.
+pub fn fields_of_nodes(given: &Writing) -> Answer<Vec<Fields>> {
+    let plan = check(given, usize::MAX, usize::MAX)?;
+    let mut nodes = Vec::new();
+    walk(given, &plan, |_, fields| nodes.push(fields));
+    Ok(nodes)
+}
+
+/// Goes over the nodes, hands out the place and the fields of each, and tells of the root.
+fn walk(given: &Writing, plan: &Plan, mut hand_out: impl FnMut(usize, Fields)) -> Placed {
+    let mut writer = Writer {
+        given,
+        plan,
+        records: given.records,
+        next: 0,
+        hand_out: &mut hand_out,
+    };
+    writer.subtree(given.record_count, plan.depth)
+}
+
 /// What a pointer says of a node.
 struct Placed {
     address: u64,
@@ -73,63 +89,63 @@ struct Writer<'a> {
     plan: &'a Plan,
     /// The records not yet placed.
     records: &'a [u8],
-    image: &'a mut [u8],
-    /// The number of the next node.
+    /// The place of the next node.
     next: usize,
+    hand_out: &'a mut dyn FnMut(usize, Fields),
 }
 
 impl<'a> Writer<'a> {
-    /// Writes a subtree of n records and tells of its root.
+    /// Hands out a subtree of n records and tells of its root.
     fn subtree(&mut self, n: u64, depth: u16) -> Placed {
+        let (tree_type, node_size) = (self.given.tree_type, self.node_size());
         if depth == 0 {
             let records = self.take(n);
-            return self.node(b"BTLF", records, &[], n);
+            return self.node(leaf_fields(tree_type, &records, node_size), n, n);
         }
         let level = usize::from(depth);
-        let widths = (self.plan.table.w, self.plan.table.t[level - 1]);
+        let widths = [
+            self.given.geometry.offset_size.into(),
+            self.plan.table.w,
+            self.plan.table.t[level - 1],
+        ];
         let mut records = Vec::new();
-        let mut pointers = Vec::new();
+        let mut pointers = Fields::new();
         for (i, size) in children(n, self.plan.table.c[level - 1]).enumerate() {
             if i > 0 {
-                records.extend_from_slice(self.take(1));
+                records.extend(self.take(1));
             }
             let child = self.subtree(size, depth - 1);
-            put(
-                &mut pointers,
-                child.address,
-                self.given.geometry.offset_size.into(),
+            let numbers = [child.address, child.records, child.total].into_iter();
+            pointers.extend(
+                numbers
+                    .zip(widths)
+                    .map(|(value, width)| number(value, width)),
             );
-            put(&mut pointers, child.records, widths.0);
-            put(&mut pointers, child.total, widths.1);
         }
-        self.node(b"BTIN", &records, &pointers, n)
+        let fields = internal_fields(tree_type, &records, pointers, node_size);
+        self.node(fields, records.len() as u64, n)
+    }
+
+    fn node_size(&self) -> usize {
+        self.given.geometry.node_size as usize
     }
 
     /// The next records.
-    fn take(&mut self, count: u64) -> &'a [u8] {
-        let (front, rest) = self
-            .records
-            .split_at(count as usize * usize::from(self.given.geometry.record_size));
+    fn take(&mut self, count: u64) -> Vec<&'a [u8]> {
+        let size = usize::from(self.given.geometry.record_size);
+        let (front, rest) = self.records.split_at(count as usize * size);
         self.records = rest;
-        front
+        front.chunks(size).collect()
     }
 
-    /// Writes the next node.
-    fn node(&mut self, signature: &[u8], records: &[u8], pointers: &[u8], total: u64) -> Placed {
-        let mut bytes = signature.to_vec();
-        bytes.push(VERSION);
-        bytes.push(self.given.tree_type);
-        bytes.extend_from_slice(records);
-        bytes.extend_from_slice(pointers);
-        put_checksum(&mut bytes);
-        let node_size = self.given.geometry.node_size as usize;
-        bytes.resize(node_size, 0);
-        let at = self.next * node_size;
-        self.image[at..at + node_size].copy_from_slice(&bytes);
-        self.next += 1;
+    /// Hands out the next node, which has so many records of its own and in all.
+    fn node(&mut self, fields: Fields, records: u64, total: u64) -> Placed {
+        let place = self.next;
+        (self.hand_out)(place, fields);
+        self.next += self.node_size();
         Placed {
-            address: self.given.start + at as u64,
-            records: (records.len() / usize::from(self.given.geometry.record_size)) as u64,
+            address: self.given.start + place as u64,
+            records,
             total,
         }
     }

@@ -1,8 +1,8 @@
 //! The stored list of headers and node images.
 
-use super::{array, List};
+use super::{array, hold_text, List};
 use crate::calls::write::Draft;
-use crate::calls::By;
+use crate::calls::{By, Case as _};
 use crate::compare::{Comparison, Held};
 use crate::inputs::Writing;
 use crate::model::Geometry;
@@ -99,13 +99,42 @@ impl Case {
 }
 
 fn text(by: By) -> String {
+    text_of(|draft| {
+        let mut lent = filled(draft, BEFORE);
+        (by.answer(draft, &mut lent), lent)
+    })
+}
+
+/// Holds what someone writes to the stored list, where every byte of the buffers is another one
+/// before the write. Bytes behind header and image have to be that one after it.
+pub fn hold_lent(by: By, before: u8) -> Held {
+    let text = text_of(|draft| {
+        let mut lent = filled(draft, before);
+        let answer = by.answer(draft, &mut lent);
+        for (buffer, written) in lent.iter_mut().zip(draft.written(&answer)) {
+            // What was lent comes to what the list has there.
+            for byte in &mut buffer[written..] {
+                *byte ^= before ^ BEFORE;
+            }
+        }
+        (answer, lent)
+    });
+    hold_text(&text, LIST.stored)
+}
+
+/// The buffers of a write, every byte the same.
+fn filled(draft: &Draft, byte: u8) -> [Vec<u8>; 2] {
+    [draft.header_length, draft.image_length].map(|length| vec![byte; length])
+}
+
+/// The list, from what a write answers and leaves in its buffers.
+fn text_of(write: impl Fn(&Draft) -> ([u64; 5], [Vec<u8>; 2])) -> String {
     let mut rows: Vec<Vec<u64>> = Vec::new();
     let mut bytes: Vec<Vec<u8>> = Vec::new();
     for (number, case) in CASES.iter().enumerate() {
         let records = case.records();
         let draft = case.draft(number, &records);
-        let mut lent = [draft.header_length, draft.image_length].map(|length| vec![BEFORE; length]);
-        let answer = by.answer(&draft, &mut lent);
+        let (answer, lent) = write(&draft);
         let mut row = vec![
             draft.given.tree_type.into(),
             case.record_count,

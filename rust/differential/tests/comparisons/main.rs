@@ -3,6 +3,7 @@
 mod checksum;
 mod differences;
 mod figures;
+mod filling;
 mod hostile;
 mod noticing;
 mod noticing_calls;

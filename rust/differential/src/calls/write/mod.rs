@@ -9,7 +9,7 @@ use nuldrafon::{raw, Refusal};
 
 use super::case::{array, Case, Fault};
 use super::typed;
-use crate::compare::bytes::{pattern, same_bytes};
+use crate::compare::bytes::{pattern, same_bytes, UNIFORM};
 use crate::compare::{rust, same, Held};
 use crate::inputs::Writing;
 use crate::model::{self, header_size};
@@ -18,8 +18,12 @@ pub use families::{
     with_several_faults,
 };
 
-/// Records up to this long are also written into buffers that the crate makes.
-const TO_VEC: usize = 1 << 16;
+/// Records up to this long are also written into buffers that the crate makes, and into others that
+/// are lent.
+const SHORT: usize = 1 << 16;
+
+/// How many bytes longer than needed those others are, where the write is accepted.
+const LONGER: usize = 9;
 
 /// A write and the lengths of its buffers.
 #[derive(Clone, Copy)]
@@ -39,6 +43,23 @@ impl<'a> Draft<'a> {
             header_length: header_size(given.geometry.offset_size, given.length_size),
             image_length: image_size.unwrap_or(64) as usize,
         }
+    }
+
+    /// The C function.
+    pub fn write_to(&self, header: &mut [u8], image: &mut [u8]) -> [u64; 5] {
+        let given = &self.given;
+        raw::write(
+            given.tree_type,
+            given.record_count,
+            given.geometry.record_size,
+            given.geometry.node_size,
+            given.geometry.offset_size,
+            given.length_size,
+            given.start,
+            given.records,
+            header,
+            image,
+        )
     }
 
     /// The last start that fits its field, for an image as long as the buffer; 0 where none does.
@@ -76,19 +97,7 @@ impl Case for Draft<'_> {
     }
 
     fn rattle(&self, [header, image]: &mut Self::Lent) -> Self::Answer {
-        let given = &self.given;
-        raw::write(
-            given.tree_type,
-            given.record_count,
-            given.geometry.record_size,
-            given.geometry.node_size,
-            given.geometry.offset_size,
-            given.length_size,
-            given.start,
-            given.records,
-            header,
-            image,
-        )
+        self.write_to(header, image)
     }
 
     fn typed(&self, [header, image]: &mut Self::Lent) -> Self::Answer {
@@ -113,11 +122,24 @@ impl Case for Draft<'_> {
         matches!(ours[0], 0 | 10 | 11).then(|| self.hold_bytes_to_rust(ours, lent))
     }
 
-    /// The write into buffers that the crate makes: what comes into lent ones that are long enough.
-    fn hold_others(&self, ours: &Self::Answer, [header, image]: &Self::Lent) -> Held {
-        if self.given.records.len() > TO_VEC {
+    fn hold_others(&self, ours: &Self::Answer, lent: &Self::Lent) -> Held {
+        if self.given.records.len() > SHORT {
             return Ok(());
         }
+        self.hold_vectors(ours, lent)?;
+        UNIFORM
+            .into_iter()
+            .try_for_each(|byte| self.hold_other_lent(byte, ours, lent))
+    }
+
+    fn faults() -> Vec<Fault<Self>> {
+        faults::faults()
+    }
+}
+
+impl Draft<'_> {
+    /// The write into buffers that the crate makes: what comes into lent ones that are long enough.
+    fn hold_vectors(&self, ours: &[u64; 5], [header, image]: &[Vec<u8>; 2]) -> Held {
         let case = || format!("{self}, to vectors");
         let written = typed::request(&self.given).write_to_vec();
         match (&written, ours[0]) {
@@ -138,12 +160,24 @@ impl Case for Draft<'_> {
         }
     }
 
-    fn faults() -> Vec<Fault<Self>> {
-        faults::faults()
+    /// The write into buffers of one byte over and over: it puts the same, and the rest stays.
+    fn hold_other_lent(&self, byte: u8, ours: &[u64; 5], lent: &[Vec<u8>; 2]) -> Held {
+        let case = || format!("{self}, lent {byte:#x}");
+        let written = self.written(ours);
+        let lengths = match ours[0] {
+            0 => [written[0] + LONGER, written[1] + LONGER],
+            _ => [self.header_length, self.image_length],
+        };
+        let mut other = lengths.map(|length| vec![byte; length]);
+        same(self.rattle(&mut other), *ours, "the other lent", case)?;
+        for ((other, lent), written) in other.iter().zip(lent).zip(written) {
+            same_bytes(&other[..written], &lent[..written], "the other lent", case)?;
+            let kept = vec![byte; other.len() - written];
+            same_bytes(&other[written..], &kept, "as lent behind it", case)?;
+        }
+        Ok(())
     }
-}
 
-impl Draft<'_> {
     /// Holds an answer and the fronts of the buffers after it to what the Rust gives.
     fn hold_bytes_to_rust(&self, ours: &[u64; 5], lent: &[Vec<u8>; 2]) -> Held {
         let case = || self.to_string();
