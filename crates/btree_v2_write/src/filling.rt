@@ -3,7 +3,7 @@
 
 ghost use mathlib.Core.Path.{_≡_};
 ghost use mathlib.Core.List.{[], _∷_};
-ghost use Prim.Native.Nat.{_+_, _-_, _*_, _^_, _≤_, _<_, min};
+ghost use Prim.Native.Nat.{_+_, _-_, _*_, _^_, _≤_, _<_};
 ghost use lib.ListN.{length};
 ghost use Rattle.numbers.specs.Numbers.{le};
 ghost use Rattle.format.specs.Bytes.{prefixSize};
@@ -70,13 +70,6 @@ pub(crate) fn put_number(node: &mut [u8], from: Progress, x: u64, width: usize) 
     after(from, 1, width)
 }
 
-// The smaller of two numbers.
-fn smaller(a: usize, b: usize) -> usize
-    ensures { λ m. ⌜ m ≡ min a b ⌝ }
-{
-    if a < b { a } else { b }
-}
-
 // Puts the n records from record r of the list on as the next fields, each of `size` bytes: in one copy, those that may still be put.
 pub(crate) fn put_records(
     node: &mut [u8],
@@ -89,7 +82,7 @@ pub(crate) fn put_records(
     requires { ⌜ (from .at + n * size ≤ length (now node)) × ((r + n) * size ≤ length (now records)) ⌝ }
     ensures { λ to. ⌜ Filled (now (node .entry)) (now (node .exit)) from (recordFields size (now (records .entry)) n r) to ⌝ }
 {
-    let bytes = smaller(n, from.left) * size;
+    let bytes = numbers::smaller(n, from.left) * size;
     let first = r * size;
     numbers::put_bytes(node, from.at, &records[first..first + bytes]);
     after(from, n, n * size)

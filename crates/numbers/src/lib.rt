@@ -21,7 +21,7 @@ pub fn read_le(data: &[u8], at: usize, width: usize) -> u64
 }
 
 // The smaller of two numbers.
-fn smaller(a: usize, b: usize) -> usize
+pub fn smaller(a: usize, b: usize) -> usize
     ensures { λ r. ⌜ r ≡ min a b ⌝ }
 {
     if a < b { a } else { b }
