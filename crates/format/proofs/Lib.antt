@@ -2,3 +2,4 @@
 pub mod Lengths
 pub mod Fields
 pub mod HeaderLengths
+pub mod Trials
