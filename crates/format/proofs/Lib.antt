@@ -1,4 +1,4 @@
--- The laws of the format's definitions, and the complete return of records.
+-- The laws of the format's definitions, and trials of the fields of nodes.
 pub mod Lengths
 pub mod Fields
 pub mod HeaderLengths
