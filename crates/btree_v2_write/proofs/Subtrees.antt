@@ -9,11 +9,11 @@ use mir.Val.{Fits}
 use mir.Syntax.{w64}
 use borrow.Author.Tests.{le-ltb, lt-ltb}
 use lib.Dec.{ltb}
-use lib.ListN.{length, getD, take, length-append}
-use lib.Seq.{take-all}
+use lib.ListN.{length, getD, take, drop, length-append}
+use lib.Seq.{take-all, drop-drop}
 use Rattle.numbers.specs.Numbers.{pick}
 use Rattle.numbers.specs.Places.{stored, joined}
-use Rattle.numbers.proofs.Lists.{stored-nil, stored-append, length-stored}
+use Rattle.numbers.proofs.Lists.{stored-nil, stored-append, length-stored, drop-stored-end}
 use Rattle.node_info.proofs.Capacities.{total-le}
 use Rattle.node_info.specs.Capacity.{totalWidth}
 use Rattle.plan.specs.Tree.{Tree, sumKids, between, nodes, below, count, size, AllKids, Everywhere}
@@ -39,6 +39,14 @@ use Rattle.btree_v2_write.proofs.Planned.{two-children, each-child, one
 stored-turn : (o : List ℕ) (p q : ℕ) (x rest : List ℕ) → p ≤ length o → q ≡ p + length x
     → stored (stored o p x) q rest ≡ stored o p (x ++ rest)
 stored-turn o p q x rest h e = rw e (stored-append o p x h rest)
+
+-- What comes after bytes that were stored, and after a place from which two buffers are the same.
+drop-after : (o d : List ℕ) (p : ℕ) (b : List ℕ) {k : ℕ} → d ≡ stored o p b → k ≡ p + length b → p ≤ length o → drop k d ≡ drop k o
+drop-after o d p b e is h = rw (e, is) (drop-stored-end o p b h)
+
+drop-further : (a b : List ℕ) (m k : ℕ) → m ≤ k → drop m a ≡ drop m b → drop k a ≡ drop k b
+drop-further a b m k h e =
+    let is : k ≡ m + (k - m) = omega arith in rw (is, ← drop-drop, ← drop-drop) (ap (drop (k - m)) e)
 
 -- What holds of every child of the tree holds of every number that a child is made of.
 all-numbers : {A : Type 0} (f : ℕ → A) (P : A → Type 0) (ms : List ℕ) → 0 < length ms → AllKids P (kidsOf f ms) → AllOf (λ m. P (f m)) ms
@@ -223,7 +231,7 @@ module _ {q : Request} {cs : ℕ} {most totals : List ℕ} {R I depth n j r k b 
         kid 0 m j r refl e (rw first-left (omega arith)) (let all′ = rw first-left at range-all in omega (arith, all′))
 
 -- The loop over the children from child 1 on. It began with the image o₁, when child 0 had returned `large`; before child i the node `next` and
--- the record `row` are reached, and the child before it, from child 2 on, has returned `small`.
+-- the record `row` are reached, the image from that node on is as it was lent, and the child before it, from child 2 on, has returned `small`.
 pub record KidsLeft (q : Request) (cs : ℕ) (most totals recs o₁ : List ℕ) (depth n j r k b x : ℕ) (large : Child) (o : List ℕ) (small : Child) (next nextRecord i : ℕ) : Type 0 where
   pub distributed : Distribution q cs most totals (length recs) (length o₁) depth n j r k b x
   pub of-first : ChildOf (depth - 1) (subtree q (depth - 1) (pick (ltb 0 x) (b + 1) b)) large
@@ -232,6 +240,7 @@ pub record KidsLeft (q : Request) (cs : ℕ) (most totals recs o₁ : List ℕ) 
   pub reached : next + sumOf (subtreeNodes q (depth - 1)) (from (k + 1) x (b + 1) b i) ≡ j + sumOf (subtreeNodes q (depth - 1)) (twoSizes (k + 1) x (b + 1) b)
   pub inList : nextRecord + withOne (from (k + 1) x (b + 1) b i) ≡ r + n + 1
   pub long : length o ≡ length o₁
+  pub lent : drop (next * q .geometry .«node_size») o ≡ drop (next * q .geometry .«node_size») o₁
   pub left : stored o (next * q .geometry .«node_size») (images q recs (depth - 1) (from (k + 1) x (b + 1) b i) next nextRecord)
       ≡ stored o₁ ((j + large .nodes) * q .geometry .«node_size») (images q recs (depth - 1) (from (k + 1) x (b + 1) b 1) (j + large .nodes) (r + large .total + 1))
 
@@ -309,6 +318,7 @@ module _ {q : Request} {cs : ℕ} {most totals recs : List ℕ} {depth n j r k b
         reached = rw (first-left distributed e) (omega (arith, wrote .child .nodes));
         inList = omega (arith, records-first, large-total);
         long = refl;
+        lent = refl;
         left = refl;
       }
 
@@ -374,6 +384,10 @@ module _ {q : Request} {cs : ℕ} {most totals recs : List ℕ} {depth n j r k b
             reached = rw (wrote .child .nodes) kid-nodes;
             inList = rw z-total kid-records;
             long = ap length (wrote .image) ∙ length-stored o _ own (rw (← ends) (kid-ready .room)) ∙ inv .long;
+            lent =
+                rw (wrote .child .nodes)
+                (drop-after o o′ (next * q .geometry .«node_size») own (wrote .image) ends (omega (arith, ends, kid-ready .room))
+                ∙ drop-further o o₁ (next * q .geometry .«node_size») ((next + subtreeNodes q d m) * q .geometry .«node_size») (omega (arith, ends)) (inv .lent));
             left =
                 rw (wrote .child .nodes, z-total, wrote .image, stored-turn o _ _ own after (omega (arith, ends, kid-ready .room)) ends)
                 (rw kid-left at (inv .left));
@@ -465,6 +479,11 @@ module _ {q : Request} {cs : ℕ} {most totals recs : List ℕ} {depth n j r k b
           sym (stored-nil o (next * q .geometry .«node_size»))
           ∙ left
           ∙ rw (first .child .nodes, total-is, first .image, stored-turn o₀ _ _ own after (omega (arith, node .room, same)) ends, first-left (inv .distributed) e)
+
+      -- The root is filled over what was lent.
+      pub root-lent : drop (next * q .geometry .«node_size») o ≡ drop (next * q .geometry .«node_size») o₀
+      root-lent =
+          drop-after o₀ o (j * q .geometry .«node_size») whole children-done place (omega (arith, ready (inv .distributed) .room, same))
 
       image-all : subtreeImage q recs (suc d) n j r ≡ whole ++ joined (internalNodeFields q recs internal)
       unfolding whole
