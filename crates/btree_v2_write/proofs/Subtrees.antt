@@ -306,6 +306,15 @@ module _ {q : Request} {cs : ℕ} {most totals recs : List ℕ} {depth n j r k b
   pub first-after-fits : Fits w64 (r + large .total + 1)
   first-after-fits = record-fits distributed _ (omega (arith, first-within))
 
+  -- The image from the next node on is as it was lent.
+  pub first-lent : drop ((j + large .nodes) * q .geometry .«node_size») o₁ ≡ drop ((j + large .nodes) * q .geometry .«node_size») o
+  first-lent =
+      let node = first-ready distributed e in
+      let own = subtreeImage q recs (depth - 1) m j r in
+      let long = length-subtree recs node in
+      let ends : (j + subtreeNodes q (depth - 1) m) * q .geometry .«node_size» ≡ j * q .geometry .«node_size» + length own = rw long (omega arith) in
+      rw (wrote .child .nodes) (drop-after o o₁ (j * q .geometry .«node_size») own (wrote .image) ends (omega (arith, node .room)))
+
   pub loop-start : (small : Child) → length o₁ ≡ length o
       → KidsLeft q cs most totals recs o₁ depth n j r k b x large o₁ small (j + large .nodes) (r + large .total + 1) 1
   unfolding sumOf
