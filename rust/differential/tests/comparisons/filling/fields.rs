@@ -7,10 +7,11 @@ use differential::calls::write::Draft;
 use differential::calls::Case;
 use differential::compare::bytes::pattern;
 use differential::compare::grid;
-use differential::inputs::Writing;
 use differential::model::{self, filled_to, Geometry, Node};
 use differential::random::Random;
 use differential::report::say;
+
+use super::drafted;
 use nuldrafon::raw;
 
 /// The most records of a tree.
@@ -140,15 +141,8 @@ fn hold_tree(geometry: Geometry, record_count: u64, random: &mut Random, met: &m
     let Ok(plan) = model::plan(record_count, geometry) else {
         return;
     };
-    let records = random.bytes(record_count as usize * usize::from(geometry.record_size));
-    let draft = Draft::exact(Writing {
-        tree_type: random.up_to(255) as u8,
-        record_count,
-        geometry,
-        length_size: 8,
-        start: random.up_to(20_000),
-        records: &records,
-    });
+    let mut records = Vec::new();
+    let draft = drafted(geometry, record_count, &mut records, random);
     let mut lent = draft.lend();
     assert_eq!(draft.rattle(&mut lent)[0], 0, "{draft}");
     let fields = model::fields_of_nodes(&draft.given).expect("the model writes it too");

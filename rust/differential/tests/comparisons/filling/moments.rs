@@ -1,12 +1,12 @@
 //! Small writes of the C function, watched after each instruction.
 
-use differential::calls::write::Draft;
 use differential::compare::grid;
-use differential::inputs::Writing;
 use differential::model::{self, Geometry};
 use differential::moments::{self, Seen, NOT_WATCHED};
 use differential::random::Random;
 use differential::report::say;
+
+use super::drafted;
 
 /// A geometry, a record count, and the depth that they come to.
 type Tree = (Geometry, u64, u64);
@@ -71,15 +71,8 @@ fn sweeps() -> impl Iterator<Item = Tree> {
 /// Watches a write; says whether it could.
 fn hold(tree: Tree, random: &mut Random, seen: &mut Seen) -> bool {
     let (geometry, record_count, depth) = tree;
-    let records = random.bytes(record_count as usize * usize::from(geometry.record_size));
-    let draft = Draft::exact(Writing {
-        tree_type: random.up_to(255) as u8,
-        record_count,
-        geometry,
-        length_size: 8,
-        start: random.up_to(20_000),
-        records: &records,
-    });
+    let mut records = Vec::new();
+    let draft = drafted(geometry, record_count, &mut records, random);
     let nodes = model::fields_of_nodes(&draft.given).expect("the model writes it");
     let mut answer = [0; 5];
     let write = |image: &mut [u8]| answer = draft.write_to(&mut [0; 38], image);
