@@ -93,9 +93,10 @@ void btree_v2_plan(uint64_t record_count, uint16_t record_size, uint32_t node_si
 
 /*
  * Writes the tree of the records, which stand end to end: its header and the image of its nodes,
- * the first of which gets the address `start`. Bytes of longer buffers stay. The answer is as that
- * of the plan. Refusals in this order: 4, 5, 7 to 15, the header's length before the image's;
- * nothing is written then.
+ * the first of which gets the address `start`. The image is filled node after node, each front to
+ * back in one pass, and then the header. Bytes of longer buffers stay. The answer is as that of the
+ * plan. Refusals in this order: 4, 5, 7 to 15, the header's length before the image's; nothing is
+ * written then.
  */
 void btree_v2_write(uint8_t tree_type, uint64_t record_count, uint16_t record_size,
                     uint32_t node_size, uint8_t offset_size, uint8_t length_size, uint64_t start,

@@ -62,7 +62,8 @@ impl<'a> WriteRequest<'a> {
     /// Writes the header to the front of one buffer and the nodes to the front of another. Bytes
     /// behind them stay as they were; where the write is refused, all bytes do.
     ///
-    /// The header takes [`Header::size`] bytes, the nodes [`Plan::image_size`].
+    /// The header takes [`Header::size`] bytes, the nodes [`Plan::image_size`]. The nodes are filled
+    /// one after another, each front to back in one pass, and then the header.
     ///
     /// Refused, by the first of these that is so: [`Refusal::InvalidOffsetSize`],
     /// [`Refusal::InvalidLengthSize`], then as [`Geometry::plan`] is from the node size on,
