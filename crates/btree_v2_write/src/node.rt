@@ -60,8 +60,8 @@ pub(crate) fn share(base: usize, extra: usize, i: usize) -> usize
     if i < extra { base + 1 } else { base }
 }
 
-// Puts the node's own records, `kept` of them, as the next fields, those that may still be put. The records below the node begin with record r; a child has `base` records,
-// the first `extra` one more.
+// Puts the node's own records, `kept` of them, as the next fields, those that may still be put. The records below the node begin with record r;
+// a child has `base` records, the first `extra` one more.
 fn put_own_records(
     node: &mut [u8],
     from: Progress,
