@@ -6,11 +6,11 @@ use borrow.Fn.PlainCycle.{Measures, is, falls, and}
 use Rattle.btree_v2_write.proofs.subtree.write_subtree.Reads as write-subtree
 use Rattle.btree_v2_write.proofs.subtree.write_subtree.Kinds as write-subtree-kinds
 use Rattle.btree_v2_write.proofs.subtree.+write_subtree.Lts-write_subtree as write-subtree-lts
-use Rattle.btree_v2_write.proofs.filling.whole.Reads as whole-reads
-use Rattle.btree_v2_write.proofs.node.share.Reads as share-reads
-use Rattle.btree_v2_write.proofs.node.write_internal.Reads as write-internal-reads
-use Rattle.btree_v2_write.proofs.node.write_leaf.Reads as write-leaf-reads
-use Rattle.plan.proofs.distribute.Reads as distribute-reads
+use Rattle.btree_v2_write.proofs.filling.whole.Reads as whole
+use Rattle.btree_v2_write.proofs.node.share.Reads as share
+use Rattle.btree_v2_write.proofs.node.write_internal.Reads as internal
+use Rattle.btree_v2_write.proofs.node.write_leaf.Reads as leaf
+use Rattle.plan.proofs.distribute.Reads as distribute
 use Rattle.btree_v2_write.proofs.subtree.+write_subtree.{statement}
 use Rattle.btree_v2_write.proofs.subtree.+write_subtree.Tie.{close}
 use native.Mathlib.Omega.{arith}
@@ -38,7 +38,7 @@ abbrev μ-loop : write-subtree-lts.MeasureT-loop
 
 abbrev claims : ℕ → write-subtree-lts.Claims
 claims t =
-    (whole-reads.Asked, whole-reads.Learnt, write-leaf-reads.Asked, write-leaf-reads.Learnt, distribute-reads.Asked, distribute-reads.Learnt, share-reads.Asked, share-reads.Learnt, write-subtree-below t, write-subtree.Post, write-internal-reads.Asked, write-internal-reads.Learnt)
+    (whole.Asked, whole.Learnt, leaf.Asked, leaf.Learnt, distribute.Asked, distribute.Learnt, share.Asked, share.Learnt, write-subtree-below t, write-subtree.Post, internal.Asked, internal.Learnt)
 
 -- What is known once the records are distributed.
 module _ (t : ℕ) where
