@@ -6,7 +6,7 @@ use lib.ListN.{length, take}
 use Rattle.numbers.specs.Places.{stored, joined}
 use Rattle.btree_v2_write.specs.declared.filling.Progress.{Progress}
 
--- The front of a node, with a whole budget.
+-- At the front of a node, where no field was put yet.
 abbrev pub start : ℕ → Progress
 start budget = record { at = 0; left = budget }
 
