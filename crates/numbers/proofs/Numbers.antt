@@ -57,6 +57,15 @@ unle-le-mod (suc w) x = rw (pow-suc, mod-mul x (one-le-pow w 256 (lit< tt)) (lit
 pub unle-le : (w x : ℕ) → x < 256 ^ w → unle (le w x) ≡ x
 unle-le w x h = rw (unle-le-mod, mod-eq-of-lt h)
 
+-- Bytes are those of the number that they hold.
+pub le-unle : (b : List ℕ) → ((i : ℕ) → getD b i 0 < 256) → le (length b) (unle b) ≡ b
+unfolding le unle
+le-unle [] h = refl
+le-unle (x ∷ b) h =
+    let low : (x + 256 * unle b) % 256 ≡ x = omega (arith, h 0) in
+    let high : (x + 256 * unle b) / 256 ≡ unle b = omega (arith, h 0) in
+    rw (low, high, le-unle b (λ i. h (suc i)))
+
 -- A field at which x stands holds x.
 pub num-le : (l : List ℕ) (p w x : ℕ) → part l p w ≡ le w x → x < 256 ^ w → num l p w ≡ x
 unfolding num

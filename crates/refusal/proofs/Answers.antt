@@ -11,7 +11,7 @@ use lib.ListN.{length, getD, take, replicate, length-take, length-append, length
 use lib.Seq.{take-append-add, take-append-le, take-take, take-at, take-suc, take-all}
 use Rattle.refusal.specs.declared.Refusal.{Refusal}
 use Rattle.refusal.specs.declared.Refusal.the-variants.{UnexpectedEof, InvalidBTreeV2Signature, InvalidBTreeV2Version, InvalidOffsetSize, InvalidLengthSize, ChecksumMismatch, InvalidNodeSize, ZeroRecordSize, TooManyRecords}
-use Rattle.refusal.specs.declared.Refusal.the-variants.{LevelHoldsNone, SubtreeTooThin, RecordBufferLength, CountAboveLengthSize, AddressAboveOffsetSize, OutputTooShort, DepthAboveLimit, InvalidKeyField, BaseBeyondFile}
+use Rattle.refusal.specs.declared.Refusal.the-variants.{LevelHoldsNone, SubtreeTooThin, RecordBufferLength, CountAboveLengthSize, AddressAboveOffsetSize, OutputTooShort, DepthAboveLimit, InvalidKeyField, BaseBeyondFile, UnknownRecordType, RecordTypeMismatch}
 use Rattle.refusal.specs.declared.Verdict.{Verdict}
 use Rattle.refusal.specs.declared.Verdict.the-variants.{Accepted, Refused}
 
@@ -85,6 +85,8 @@ refused-is (OutputTooShort size) = (_, _, refl, lit≤ tt, lit< tt)
 refused-is (DepthAboveLimit depth) = (_, _, refl, lit≤ tt, lit< tt)
 refused-is InvalidKeyField = (_, _, refl, lit≤ tt, lit< tt)
 refused-is BaseBeyondFile = (_, _, refl, lit≤ tt, lit< tt)
+refused-is UnknownRecordType = (_, _, refl, lit≤ tt, lit< tt)
+refused-is RecordTypeMismatch = (_, _, refl, lit≤ tt, lit< tt)
 
 pub cells-more : (r : Refusal) (m : ℕ) → cells (m + 3) (refusalOf r) ≡ cells 3 (refusalOf r) ++ replicate m 0
 cells-more r m = let s = refused-is r in rw (s .2) (more m (s .0) (s .1) (s .3))

@@ -1,13 +1,15 @@
--- An answer in document 01's terms, and the number and values that it gives to each cause ("Causes and numbers"); 17 and 18 are document 02's.
+-- An answer in document 01's terms, and the number and values that it gives to each cause ("Causes and numbers"); 17 to 20 are document 02's.
 use Prim.Native.Nat.{ℕ}
 use mathlib.Core.List.{List, [], _∷_, _++_}
 use mathlib.Core.Bool.{Bool, true, false}
 use lib.ListN.{take, replicate}
 use Rattle.refusal.specs.declared.Refusal.{Refusal}
 use Rattle.refusal.specs.declared.Refusal.the-variants.{UnexpectedEof, InvalidBTreeV2Signature, InvalidBTreeV2Version, InvalidOffsetSize, InvalidLengthSize, ChecksumMismatch, InvalidNodeSize, ZeroRecordSize, TooManyRecords}
-use Rattle.refusal.specs.declared.Refusal.the-variants.{LevelHoldsNone, SubtreeTooThin, RecordBufferLength, CountAboveLengthSize, AddressAboveOffsetSize, OutputTooShort, DepthAboveLimit, InvalidKeyField, BaseBeyondFile}
+use Rattle.refusal.specs.declared.Refusal.the-variants.{LevelHoldsNone, SubtreeTooThin, RecordBufferLength, CountAboveLengthSize, AddressAboveOffsetSize, OutputTooShort, DepthAboveLimit, InvalidKeyField, BaseBeyondFile, UnknownRecordType, RecordTypeMismatch}
 use Rattle.refusal.specs.declared.Verdict.{Verdict}
 use Rattle.refusal.specs.declared.Verdict.the-variants as verdict
+use Rattle.refusal.specs.declared.PutAnswer.{PutAnswer}
+use Rattle.refusal.specs.declared.PutAnswer.the-variants as put
 
 -- Accepted with the figures that the call gives, or refused by a number with its values.
 pub data Answer : Type 0 where
@@ -39,11 +41,18 @@ refusalOf (OutputTooShort length) = refused 15 (length ∷ [])
 refusalOf (DepthAboveLimit depth) = refused 16 (depth ∷ [])
 refusalOf InvalidKeyField = refused 17 []
 refusalOf BaseBeyondFile = refused 18 []
+refusalOf UnknownRecordType = refused 19 []
+refusalOf RecordTypeMismatch = refused 20 []
 
 -- What the verdict of a test says.
 abbrev pub verdictOf : Verdict → Answer
 verdictOf verdict.Accepted = accepted []
 verdictOf (verdict.Refused r) = refusalOf r
+
+-- What a call says that puts bytes out: their length.
+abbrev pub putAnswerOf : PutAnswer → Answer
+putAnswerOf (put.Put length) = accepted (length ∷ [])
+putAnswerOf (put.Refused r) = refusalOf r
 
 -- An answer as k numbers: the refusal's number (0 where accepted), the figures or values, and zeros.
 unfoldable pub cells : ℕ → Answer → List ℕ

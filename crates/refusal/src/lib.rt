@@ -1,4 +1,4 @@
-// The causes for which a call is refused, the number and values of each, and the verdict of a test.
+// The causes for which a call is refused, the number and values of each, the verdict of a test, and the answer of a call that puts bytes out.
 
 ghost use mathlib.Core.Path.{_≡_};
 ghost use mathlib.Core.List.{[], _∷_};
@@ -42,6 +42,10 @@ pub enum Refusal {
     InvalidKeyField,
     // 18: the base is beyond the file's length
     BaseBeyondFile,
+    // 19: the tree type is not one whose records have a meaning here
+    UnknownRecordType,
+    // 20: a record has not the length of its type, or a value is too large for its field
+    RecordTypeMismatch,
 }
 
 // A cause's number and its values, 0 where it has fewer than two.
@@ -90,6 +94,8 @@ impl Refusal {
             Refusal::DepthAboveLimit(depth) => of_two(16, depth as u64, 0),
             Refusal::InvalidKeyField => of_two(17, 0, 0),
             Refusal::BaseBeyondFile => of_two(18, 0, 0),
+            Refusal::UnknownRecordType => of_two(19, 0, 0),
+            Refusal::RecordTypeMismatch => of_two(20, 0, 0),
         }
     }
 }
@@ -110,4 +116,10 @@ impl Verdict {
             Verdict::Refused(cause) => cause.code(),
         }
     }
+}
+
+// The length of what was put at the front of an output, or why nothing was.
+pub enum PutAnswer {
+    Put(u64),
+    Refused(Refusal),
 }

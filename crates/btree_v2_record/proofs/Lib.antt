@@ -1,0 +1,5 @@
+-- The laws of records by their meaning.
+mod Table
+mod Loops
+pub mod Values
+mod Calls

@@ -1,0 +1,26 @@
+-- The loop of `all_fit`: the values of i fields fit.
+use Prim.Native.Nat.{_-_}
+use Rattle.btree_v2_record.proofs.Loops.{Fitting, fitting-start, fitting-not, fitting-turn, fitting-end}
+use borrow.Author.Needs.{needs}
+use Rattle.btree_v2_record.proofs.all_fit.Statement.{statement}
+use Rattle.btree_v2_record.proofs.all_fit.Tie as tie
+
+abbrev Inv-loop : tie.InvT-loop
+Inv-loop first values i₀ i = Fitting first values i
+
+abbrev μ-loop : tie.MeasureT-loop
+μ-loop first values i₀ i = 4 - i
+
+pub all-fit-spec : {M : Type 1} → statement M
+all-fit-spec =
+    tie.close
+    (tie.spec
+    Inv-loop
+    μ-loop
+    (λ c. fitting-start (c .args .first) (c .args .values .now))
+    (λ c. search needs) (λ c κs. search needs) (λ c. search needs) (λ c. search needs) (λ c. search needs)
+    (λ c κs. search needs) (λ c κs. search needs)
+    (λ c. search fitting-not)
+    (λ c. search needs) (λ c. search needs)
+    (λ c. search fitting-turn)
+    (λ c. search fitting-end))

@@ -1,0 +1,28 @@
+-- The table as the code goes through it: its fields one after another, and the values that are read so far.
+use Prim.Native.Nat.{ℕ, _+_, _≤_, _<_}
+use mathlib.Core.Path.{_≡_}
+use mathlib.Core.List.{List, [], _∷_, _++_}
+use lib.Dec.{ltb}
+use lib.ListN.{getD, set, take, drop}
+use Rattle.numbers.specs.Numbers.{part, unle}
+use Rattle.btree_v2_record.specs.Records.{RecordField, field, RecordType, table, isIn, fieldsIn}
+
+-- The fields of all types of a table.
+unfoldable pub allFields : List RecordType → List RecordField
+allFields [] = []
+allFields (r ∷ rs) = r .fields ++ allFields rs
+
+-- Field k of the table.
+abbrev pub fieldAt : ℕ → RecordField
+fieldAt k = getD (allFields table) k (field 0 0)
+
+-- Values with the number of each field put at the place of its meaning, from the first field on.
+unfoldable pub filled : List RecordField → List ℕ → List ℕ → List ℕ
+filled [] bytes values = values
+filled (f ∷ fs) bytes values = filled fs (drop (f .width) bytes) (set values (f .meaning) (unle (take (f .width) bytes)))
+
+-- The place of a type's first field: that of no field where the type is not in the table.
+pub record FirstField (t first : ℕ) : Type 0 where
+  pub known : isIn table t ≡ ltb first 16
+  pub fields : fieldsIn table t ≡ part (allFields table) first 4
+  pub within : first < 16 → first + 4 ≤ 16

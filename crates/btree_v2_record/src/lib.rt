@@ -1,0 +1,186 @@
+// Records by their meaning: the values of a record of type 5, 6, 8 or 9 read, and a record written from its values. The types and their fields
+// are a table; each loop goes over the fields of one type.
+
+ghost use mathlib.Core.Path.{_≡_};
+ghost use Prim.Native.Nat.{_+_, _^_, _≤_, _<_};
+ghost use lib.Dec.{ltb};
+ghost use lib.ListN.{length, replicate};
+ghost use Rattle.numbers.specs.Numbers.{part};
+ghost use Rattle.numbers.specs.Places.{stored};
+ghost use Rattle.refusal.specs.Answer.{putAnswerOf};
+ghost use Rattle.btree_v2_record.specs.Records.{table, recordLength, recordBytes, valuesFit, recordRead, recordWritten, recordOutput};
+ghost use Rattle.btree_v2_record.specs.Answers.{valuesOf, valuesAnswerOf};
+ghost use Rattle.btree_v2_record.specs.Steps.{allFields, fieldAt, filled, FirstField};
+use refusal::PutAnswer;
+use refusal::Refusal;
+
+// The values of a record; 0 where its type lacks the field.
+pub struct RecordValues {
+    pub name_hash: u64,
+    pub heap_id: u64,
+    pub message_flags: u64,
+    pub creation_order: u64,
+}
+
+pub enum ValuesAnswer {
+    Read(RecordValues),
+    Refused(Refusal),
+}
+
+// The table: four fields for each of the types 5, 6, 8 and 9, in the record's own order, and behind them those that the type lacks. A field's
+// meaning is the place of its value: 0 name hash, 1 heap id, 2 message flags, 3 creation order.
+const MEANINGS: [usize; 16] = [0, 1, 2, 3, 3, 1, 0, 2, 1, 2, 3, 0, 1, 2, 3, 0];
+
+const WIDTHS: [usize; 16] = [4, 7, 0, 0, 8, 7, 0, 0, 8, 1, 4, 4, 8, 1, 4, 0];
+
+// The place of a type's first field in the table, 16 where it is not there.
+fn first_field(tree_type: u8) -> usize
+    ensures { λ r. ⌜ FirstField «tree_type» r ⌝ }
+{
+    if tree_type == 5 {
+        return 0;
+    }
+    if tree_type == 6 {
+        return 4;
+    }
+    if tree_type == 8 {
+        return 8;
+    }
+    if tree_type == 9 {
+        return 12;
+    }
+    16
+}
+
+fn meaning_of(field: usize) -> usize
+    requires { ⌜ field < 16 ⌝ }
+    ensures { λ r. ⌜ (r ≡ fieldAt field .meaning) × (r < 4) ⌝ }
+{
+    MEANINGS[field]
+}
+
+fn width_of(field: usize) -> usize
+    requires { ⌜ field < 16 ⌝ }
+    ensures { λ r. ⌜ (r ≡ fieldAt field .width) × (r ≤ 8) ⌝ }
+{
+    WIDTHS[field]
+}
+
+// The length of a record with the four fields from `first` on.
+fn length_of(first: usize) -> usize
+    requires { ⌜ first + 4 ≤ 16 ⌝ }
+    ensures { λ r. ⌜ r ≡ recordLength (part (allFields table) first 4) ⌝ }
+{
+    let mut length = 0;
+    let mut i = 0;
+    while i < 4 {
+        length += width_of(first + i);
+        i += 1;
+    }
+    length
+}
+
+// The values in a record with these fields.
+fn read_fields(first: usize, bytes: &[u8]) -> [u64; 4]
+    requires { ⌜ (first + 4 ≤ 16) × (length (now bytes) ≡ recordLength (part (allFields table) first 4)) ⌝ }
+    ensures { λ r. ⌜ r ≡ filled (part (allFields table) first 4) (now (bytes .entry)) (replicate 4 0) ⌝ }
+{
+    let mut values = [0u64; 4];
+    let mut at = 0;
+    let mut i = 0;
+    while i < 4 {
+        let meaning = meaning_of(first + i);
+        let width = width_of(first + i);
+        values[meaning] = numbers::read_le(bytes, at, width);
+        at += width;
+        i += 1;
+    }
+    values
+}
+
+// Whether a value is below 256 to the power of the width.
+fn fits(value: u64, width: usize) -> bool
+    requires { ⌜ width ≤ 8 ⌝ }
+    ensures { λ r. ⌜ r ≡ ltb value (256 ^ width) ⌝ }
+{
+    if width == 8 {
+        return true;
+    }
+    (value >> (8 * width)) == 0
+}
+
+// Whether every value is small enough for its field.
+fn all_fit(first: usize, values: &[u64; 4]) -> bool
+    requires { ⌜ first + 4 ≤ 16 ⌝ }
+    ensures { λ r. ⌜ r ≡ valuesFit (part (allFields table) first 4) (now (values .entry)) ⌝ }
+{
+    let mut i = 0;
+    while i < 4 {
+        let meaning = meaning_of(first + i);
+        if !fits(values[meaning], width_of(first + i)) {
+            return false;
+        }
+        i += 1;
+    }
+    true
+}
+
+// Puts the record with these fields and values at the front of the output.
+fn put_fields(first: usize, values: &[u64; 4], output: &mut [u8])
+    requires { ⌜ (first + 4 ≤ 16) × (recordLength (part (allFields table) first 4) ≤ length (now output)) ⌝ }
+    ensures { λ _. ⌜ now (output .exit) ≡ stored (now (output .entry)) 0 (recordBytes (part (allFields table) first 4) (now (values .entry))) ⌝ }
+{
+    let mut at = 0;
+    let mut i = 0;
+    while i < 4 {
+        let meaning = meaning_of(first + i);
+        at = numbers::write_le(output, at, values[meaning], width_of(first + i));
+        i += 1;
+    }
+}
+
+// The values of a record of a type.
+pub fn read_record(tree_type: u8, bytes: &[u8]) -> ValuesAnswer
+    ensures { λ r. ⌜ valuesAnswerOf r ≡ recordRead «tree_type» (now (bytes .entry)) ⌝ }
+{
+    let first = first_field(tree_type);
+    if 16 <= first {
+        return ValuesAnswer::Refused(Refusal::UnknownRecordType);
+    }
+    if bytes.len() != length_of(first) {
+        return ValuesAnswer::Refused(Refusal::RecordTypeMismatch);
+    }
+    let values = read_fields(first, bytes);
+    ValuesAnswer::Read(RecordValues {
+        name_hash: values[0],
+        heap_id: values[1],
+        message_flags: values[2],
+        creation_order: values[3],
+    })
+}
+
+// A record of a type with these values, put at the front of the output.
+pub fn write_record(tree_type: u8, values: RecordValues, output: &mut [u8]) -> PutAnswer
+    ensures answered { λ r. ⌜ putAnswerOf r ≡ recordWritten «tree_type» (valuesOf values) (now (output .entry)) ⌝ }
+    ensures outputLeft { λ _. ⌜ now (output .exit) ≡ recordOutput «tree_type» (valuesOf values) (now (output .entry)) ⌝ }
+{
+    let first = first_field(tree_type);
+    if 16 <= first {
+        return PutAnswer::Refused(Refusal::UnknownRecordType);
+    }
+    let list = [
+        values.name_hash,
+        values.heap_id,
+        values.message_flags,
+        values.creation_order,
+    ];
+    if !all_fit(first, &list) {
+        return PutAnswer::Refused(Refusal::RecordTypeMismatch);
+    }
+    let length = length_of(first);
+    if output.len() < length {
+        return PutAnswer::Refused(Refusal::OutputTooShort(output.len() as u64));
+    }
+    put_fields(first, &list, output);
+    PutAnswer::Put(length as u64)
+}
