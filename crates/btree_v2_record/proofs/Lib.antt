@@ -3,3 +3,4 @@ mod Table
 mod Loops
 pub mod Values
 mod Calls
+pub mod Inverse

@@ -1,10 +1,11 @@
--- Reading and writing are inverse: document 02, "Four".
+-- Reading and writing are inverse, and what the theorems say of fields: document 02, "Four".
 use Prim.Native.Nat.{ℕ, _≤_, _<_}
 use mathlib.Core.Path.{_≡_}
 use mathlib.Core.Bool.{Bool, true, false, not, _&&_, _||_}
 use mathlib.Core.List.{List, [], _∷_}
 use lib.Dec.{ltb, eqb}
 use lib.ListN.{length, getD, take}
+use Rattle.numbers.specs.Numbers.{pick}
 use Rattle.numbers.specs.Places.{over}
 use Rattle.refusal.specs.Answer.{accepted}
 use Rattle.btree_v2_record.specs.Records.{RecordField, nameHash, heapId, messageFlags, creationOrder, recordRead, recordWritten, recordOutput}
@@ -35,3 +36,8 @@ amongFour (f ∷ fs) = ltb (f .meaning) 4 && amongFour fs
 unfoldable pub eachOnce : List RecordField → Bool
 eachOnce fs =
     (once fs && amongFour fs) && ((named fs nameHash && named fs heapId) && (named fs messageFlags && named fs creationOrder))
+
+-- The width of the field with a meaning; 0 where there is none.
+unfoldable pub widthIn : List RecordField → ℕ → ℕ
+widthIn [] m = 0
+widthIn (f ∷ fs) m = let later = widthIn fs m in pick (eqb m (f .meaning)) (f .width) later
