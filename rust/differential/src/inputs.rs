@@ -82,3 +82,12 @@ pub struct Leaf {
     pub count: u16,
     pub record_size: u16,
 }
+
+/// The values of a record by their meaning; one that the record's type lacks is 0.
+#[derive(Debug, Clone, Copy, PartialEq, Eq, Default)]
+pub struct RecordValues {
+    pub name_hash: u64,
+    pub heap_id: u64,
+    pub message_flags: u64,
+    pub creation_order: u64,
+}
