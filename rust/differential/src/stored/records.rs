@@ -107,8 +107,8 @@ const MOST_OF_4: u64 = (1 << 32) - 1;
 const MOST_OF_1: u64 = 255;
 
 /// Tree types, values in the order of a read's answer, and output lengths: each type, values at and
-/// above the limits of each field, fields that a type lacks, short outputs, other types, and several
-/// causes at once.
+/// above the limits of each field, fields that a type lacks, short outputs, other types, and
+/// several causes at once.
 const DRAFTS: [(u8, [u64; 4], usize); 40] = [
     (5, [0x0403_0201, 0x000b_0a09_0807_0605, 0, 0], 11),
     (5, [0x0403_0201, 0x000b_0a09_0807_0605, 0, 0], 14),
@@ -153,9 +153,7 @@ const DRAFTS: [(u8, [u64; 4], usize); 40] = [
 ];
 
 fn text_of_reads(by: By) -> String {
-    let mut rows: Vec<Vec<u64>> = Vec::new();
-    let mut records: Vec<Vec<u8>> = Vec::new();
-    for (tree_type, length, bytes) in &RECORDS {
+    let answered = RECORDS.iter().map(|(tree_type, length, bytes)| {
         let record = bytes.record(*length);
         let reading = RecordReading {
             tree_type: *tree_type,
@@ -164,30 +162,31 @@ fn text_of_reads(by: By) -> String {
         let answer = by.answer(&reading, &mut []);
         let mut row = vec![reading.tree_type.into(), *length as u64];
         row.extend(answer);
-        rows.push(row);
-        records.push(record);
-    }
-    let rows = array("RECORD_READ_ROWS", "u64", &rows);
-    let bytes = array("RECORD_READ_BYTES", "u8", &records);
-    format!("{LAYOUT_OF_READS}{rows}{bytes}")
+        (row, record)
+    });
+    text(LAYOUT_OF_READS, "RECORD_READ", answered)
 }
 
 fn text_of_writes(by: By) -> String {
-    let mut rows: Vec<Vec<u64>> = Vec::new();
-    let mut outputs: Vec<Vec<u8>> = Vec::new();
-    for draft in drafts() {
+    let answered = drafts().map(|draft| {
         let mut lent = [vec![BEFORE; draft.output_length]];
         let answer = by.answer(&draft, &mut lent);
+        let [output] = lent;
         let mut row = vec![draft.tree_type.into()];
         row.extend(draft.values.figures());
         row.push(draft.output_length as u64);
         row.extend(answer);
-        rows.push(row);
-        outputs.extend(lent);
-    }
-    let rows = array("RECORD_WRITE_ROWS", "u64", &rows);
-    let bytes = array("RECORD_WRITE_BYTES", "u8", &outputs);
-    format!("{LAYOUT_OF_WRITES}{rows}{bytes}")
+        (row, output)
+    });
+    text(LAYOUT_OF_WRITES, "RECORD_WRITE", answered)
+}
+
+/// The arrays of the rows and of their bytes.
+fn text(layout: &str, name: &str, answered: impl Iterator<Item = (Vec<u64>, Vec<u8>)>) -> String {
+    let (rows, bytes): (Vec<_>, Vec<_>) = answered.unzip();
+    let rows = array(&format!("{name}_ROWS"), "u64", &rows);
+    let bytes = array(&format!("{name}_BYTES"), "u8", &bytes);
+    format!("{layout}{rows}{bytes}")
 }
 
 fn drafts() -> impl Iterator<Item = RecordDraft> {

@@ -64,8 +64,8 @@ pub fn with_values_combined(to: &mut Comparison, _: &mut Random) -> Held {
     Ok(())
 }
 
-/// Every type, with each choice of values at most 0 or too large for every field, and outputs from
-/// none to one that all records fit.
+/// Every type, with one number in every choice of the fields and 0 in the others, and outputs from
+/// an empty one to one that every record fits.
 pub fn with_several_causes(to: &mut Comparison, _: &mut Random) -> Held {
     for tree_type in 0..=u8::MAX {
         for large in [1, 256, 1 << 32, 1 << 56, u64::MAX] {
@@ -92,8 +92,7 @@ pub fn into_long_outputs(to: &mut Comparison, random: &mut Random) -> Held {
     Ok(())
 }
 
-/// Any values, mostly ones that fit, of mostly a known type, into mostly outputs that are long
-/// enough.
+/// Any values, most of which fit, mostly of a known type and into an output that is long enough.
 pub fn of_any_values(to: &mut Comparison, random: &mut Random) -> Held {
     for _ in 0..RANDOM {
         let known = RecordType::any(random);

@@ -102,8 +102,10 @@ fn of_bytes() -> Vec<Fault<RecordDraft>> {
                 answer[1] = 15;
             }
         }),
-        fault("a place of the answer left unset", |_, answer, _| {
-            answer[2] = u64::MAX;
+        fault("the last place of the answer left unset", |_, answer, _| {
+            if answer[0] == 0 {
+                answer[2] = u64::MAX;
+            }
         }),
     ]
 }
@@ -111,20 +113,30 @@ fn of_bytes() -> Vec<Fault<RecordDraft>> {
 /// Faults in the values that fit.
 fn of_values() -> Vec<Fault<RecordDraft>> {
     vec![
-        fault("a value cut off", |draft, answer, lent| {
-            if draft.tree_type == 8 {
+        fault(
+            "a name hash cut to 4 bytes in type 8",
+            |draft, answer, lent| {
+                if draft.tree_type == 8 {
+                    let [hash, id, flags, order] = draft.values.figures();
+                    write_as(draft, [hash % (1 << 32), id, flags, order], answer, lent);
+                }
+            },
+        ),
+        fault("flags cut to a byte in type 9", |draft, answer, lent| {
+            if draft.tree_type == 9 {
                 let [hash, id, flags, order] = draft.values.figures();
-                write_as(draft, [hash % (1 << 32), id, flags, order], answer, lent);
+                write_as(draft, [hash, id, flags % 256, order], answer, lent);
             }
         }),
-        fault("flags cut to 8 bits", |draft, answer, lent| {
-            let [hash, id, flags, order] = draft.values.figures();
-            write_as(draft, [hash, id, flags % 256, order], answer, lent);
-        }),
-        fault("a heap id cut to 7 bytes", |draft, answer, lent| {
-            let [hash, id, flags, order] = draft.values.figures();
-            write_as(draft, [hash, id % (1 << 56), flags, order], answer, lent);
-        }),
+        fault(
+            "a heap id cut to 7 bytes in type 6",
+            |draft, answer, lent| {
+                if draft.tree_type == 6 {
+                    let [hash, id, flags, order] = draft.values.figures();
+                    write_as(draft, [hash, id % (1 << 56), flags, order], answer, lent);
+                }
+            },
+        ),
         fault(
             "a field that type 5 lacks untested",
             |draft, answer, lent| {
@@ -221,6 +233,11 @@ fn of_refusals() -> Vec<Fault<RecordDraft>> {
         }),
         fault("19 for 20", |_, answer, _| {
             answer[0] -= u64::from(answer[0] == 20);
+        }),
+        fault("a refusal's last place left unset", |_, answer, _| {
+            if answer[0] == 20 {
+                answer[2] = u64::MAX;
+            }
         }),
         fault("a value told with 20", |draft, answer, _| {
             if answer[0] == 20 {
