@@ -56,7 +56,11 @@ enum btree_v2_refusal {
     /* The key's field has not 1 to 8 bytes, or runs past the record's end. */
     BTREE_V2_WRONG_KEY_FIELD = 17,
     /* The base is beyond the file's length. */
-    BTREE_V2_BASE_BEYOND_FILE = 18
+    BTREE_V2_BASE_BEYOND_FILE = 18,
+    /* The tree type is not 5, 6, 8 or 9. */
+    BTREE_V2_UNKNOWN_RECORD_TYPE = 19,
+    /* A record's length is not that of its tree type, or a value is too large for its field. */
+    BTREE_V2_RECORD_TYPE_MISMATCH = 20
 };
 
 /* The levels that a capacity table has: 0, that of the leaves, to 32. */
@@ -227,6 +231,50 @@ void btree_v2_find_at(const uint8_t *file, size_t file_length,
                       const uint64_t header[BTREE_V2_HEADER_AT_FIGURES], uint8_t offset_size,
                       uint64_t key_start, uint64_t key_width, uint64_t key,
                       uint64_t answer[BTREE_V2_FIND_PLACES]);
+
+/*
+ * The lengths of the records whose fields the next two functions know, by the tree type. A field is
+ * a number, low byte first; in the order of the record, and with their widths:
+ *   5  links of a group by name: name hash 4, heap id 7
+ *   6  links of a group by creation order: creation order 8, heap id 7
+ *   8  attributes of an object by name: heap id 8, message flags 1, creation order 4, name hash 4
+ *   9  attributes of an object by creation order: heap id 8, message flags 1, creation order 4
+ * The name hash is checksum_jenkins_lookup3 of the name.
+ */
+enum {
+    BTREE_V2_TYPE_5_RECORD_SIZE = 11,
+    BTREE_V2_TYPE_6_RECORD_SIZE = 15,
+    BTREE_V2_TYPE_8_RECORD_SIZE = 17,
+    BTREE_V2_TYPE_9_RECORD_SIZE = 13
+};
+
+/* Places of the answer of btree_v2_record_read. */
+enum {
+    BTREE_V2_RECORD_READ_NAME_HASH = 1,
+    BTREE_V2_RECORD_READ_HEAP_ID = 2,
+    BTREE_V2_RECORD_READ_MESSAGE_FLAGS = 3,
+    BTREE_V2_RECORD_READ_CREATION_ORDER = 4,
+    BTREE_V2_RECORD_READ_PLACES = 5
+};
+
+/*
+ * Reads the values of a record of a tree of this type; one whose field the type lacks is 0.
+ * Refusals in this order: 19; 20, where the record has not the type's length.
+ */
+void btree_v2_record_read(uint8_t tree_type, const uint8_t *record, size_t record_length,
+                          uint64_t answer[BTREE_V2_RECORD_READ_PLACES]);
+
+/* Places of the answer of btree_v2_record_write. */
+enum { BTREE_V2_RECORD_WRITE_LENGTH = 1, BTREE_V2_RECORD_WRITE_PLACES = 3 };
+
+/*
+ * Writes the record of these values to the front of the output; the output's other bytes stay.
+ * Refusals in this order: 19; 20, where a value is too large for its field, as any but 0 is where
+ * the type lacks the field; 15; nothing is written then.
+ */
+void btree_v2_record_write(uint8_t tree_type, uint64_t name_hash, uint64_t heap_id,
+                           uint64_t message_flags, uint64_t creation_order, uint8_t *output,
+                           size_t output_length, uint64_t answer[BTREE_V2_RECORD_WRITE_PLACES]);
 
 #ifdef __cplusplus
 }

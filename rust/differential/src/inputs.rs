@@ -82,3 +82,35 @@ pub struct Leaf {
     pub count: u16,
     pub record_size: u16,
 }
+
+/// The values of a record by their meaning; one that the record's type lacks is 0.
+#[derive(Debug, Clone, Copy, PartialEq, Eq, Default)]
+pub struct RecordValues {
+    pub name_hash: u64,
+    pub heap_id: u64,
+    pub message_flags: u64,
+    pub creation_order: u64,
+}
+
+impl RecordValues {
+    /// The values in the order of a read's answer.
+    pub fn of_figures(figures: [u64; 4]) -> RecordValues {
+        let [name_hash, heap_id, message_flags, creation_order] = figures;
+        RecordValues {
+            name_hash,
+            heap_id,
+            message_flags,
+            creation_order,
+        }
+    }
+
+    /// The same back.
+    pub fn figures(&self) -> [u64; 4] {
+        [
+            self.name_hash,
+            self.heap_id,
+            self.message_flags,
+            self.creation_order,
+        ]
+    }
+}

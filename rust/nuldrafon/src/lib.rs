@@ -17,6 +17,8 @@
 //! | read a header | [`Header::parse`], or [`Header::parse_at`] behind a block |
 //! | read all records | [`Header::collect_to_vec`], or [`Header::collect`] into a lent buffer |
 //! | find one record by a number in it | [`Header::find`] |
+//! | read a record by its fields | [`RecordValues::read`] |
+//! | write one | [`RecordValues::write_to_vec`], or [`RecordValues::write`] into a lent buffer |
 //! | look at the records of one leaf | [`LeafView::new`], or [`LeafView::new_at`] behind a block |
 //! | know what nodes hold at most | [`Geometry::node_info`] |
 //! | sum bytes as HDF5 does | [`jenkins_lookup3`] |
@@ -69,6 +71,7 @@ mod header;
 mod leaf_view;
 #[allow(unsafe_code)]
 pub mod raw;
+mod record;
 mod refusal;
 mod write_request;
 
@@ -78,5 +81,6 @@ pub use geometry::{Geometry, NodeInfo, Plan, LEVELS};
 pub use header::{CollectError, Collected, Counts, Header};
 pub use leaf_view::LeafView;
 pub use raw::jenkins_lookup3;
+pub use record::RecordValues;
 pub use refusal::Refusal;
 pub use write_request::{WriteRequest, Written};

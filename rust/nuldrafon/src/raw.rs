@@ -137,6 +137,18 @@ calls! {
     find_at = btree_v2_find_at(
         file: &[u8], header: &[u64; 8], offset_size: u8, key_start: u64, key_width: u64, key: u64,
     ) -> [u64; 6];
+
+    /// Reads the values of a record of a tree of this type. Answer: 0, name hash, heap id, message
+    /// flags, creation order; 0 for one whose field the type lacks. Refusals in this order: 19, 20.
+    record_read = btree_v2_record_read(tree_type: u8, record: &[u8],) -> [u64; 5];
+
+    /// Writes the record of these values to the front of the output, whose other bytes stay.
+    /// Answer: 0, length of the record, 0. Refusals in this order: 19, 20, 15; nothing is written
+    /// then.
+    record_write = btree_v2_record_write(
+        tree_type: u8, name_hash: u64, heap_id: u64, message_flags: u64, creation_order: u64,
+        output: &mut [u8],
+    ) -> [u64; 3];
 }
 
 /// The lookup3 checksum of `data`, start value 0: the one that HDF5 has for its metadata.

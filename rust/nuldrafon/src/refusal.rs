@@ -176,6 +176,15 @@ causes! {
     /// is longer than the file.
     BaseBeyondFile = 18:
         "the base is beyond the file's length";
+
+    /// The tree type is not 5, 6, 8 or 9: the fields of its records are not known.
+    UnknownRecordType = 19:
+        "the tree type is not 5, 6, 8 or 9";
+
+    /// A record's length is not that of its tree type, or a value is too large for its field, as
+    /// any but 0 is where the type lacks the field.
+    RecordTypeMismatch = 20:
+        "the record's length is not that of its type, or a value is too large for its field";
 }
 
 impl Error for Refusal {}

@@ -103,3 +103,11 @@ pub fn key_field() -> Refusal {
 pub fn base_beyond_file() -> Refusal {
     plain(18)
 }
+
+pub fn unknown_record_type() -> Refusal {
+    plain(19)
+}
+
+pub fn record_type_mismatch() -> Refusal {
+    plain(20)
+}
