@@ -11,7 +11,9 @@ use Rattle.numbers.specs.Numbers.{pick}
 use Rattle.numbers.specs.Places.{stored, put}
 use Rattle.numbers.proofs.Lists.{put-fits, put-not, length-stored}
 use Rattle.refusal.specs.declared.Refusal.{Refusal}
-use Rattle.refusal.specs.Answer.{refused, refusalOf, verdictOf, cells}
+use Rattle.refusal.specs.declared.PutAnswer.{PutAnswer}
+use Rattle.refusal.specs.declared.PutAnswer.the-variants as put
+use Rattle.refusal.specs.Answer.{refused, refusalOf, verdictOf, putAnswerOf, cells}
 use Rattle.refusal.proofs.Answers.{length-cells, refused-is, code-more}
 use Rattle.plan.specs.declared.BTreeV2Plan.{BTreeV2Plan}
 use Rattle.plan.specs.declared.PlanAnswer.{PlanAnswer}
@@ -22,9 +24,10 @@ use Rattle.btree_v2_header.specs.declared.HeaderAnswer.{HeaderAnswer}
 use Rattle.btree_v2_header.specs.declared.HeaderAnswer.the-variants as header
 use Rattle.btree_v2_header.specs.Header.{headerFigures}
 use Rattle.btree_v2_header.specs.Answers.{headerAnswerOf}
-use Rattle.btree_v2_leaf_view.specs.declared.RecordAnswer.{RecordAnswer}
-use Rattle.btree_v2_leaf_view.specs.declared.RecordAnswer.the-variants as copied
-use Rattle.btree_v2_leaf_view.specs.Answers.{recordAnswerOf}
+use Rattle.btree_v2_record.specs.declared.RecordValues.{RecordValues}
+use Rattle.btree_v2_record.specs.declared.ValuesAnswer.{ValuesAnswer}
+use Rattle.btree_v2_record.specs.declared.ValuesAnswer.the-variants as read
+use Rattle.btree_v2_record.specs.Answers.{valuesOf, valuesAnswerOf}
 use Rattle.btree_v2_collect.specs.declared.Collected.{Collected}
 use Rattle.btree_v2_collect.specs.Answers.{collectedCells}
 use Rattle.btree_v2_find.specs.declared.Found.{Found}
@@ -81,14 +84,23 @@ carried-refused cause e = let s = refused-is cause in rw (e, s .2) (none (s .0) 
     none number (_ ∷ _ ∷ []) h = refl
     none number (_ ∷ _ ∷ _ ∷ r) h = absurd (omega arith)
 
--- The length of a record, or why it was not copied.
-pub record-put : {p : RecordAnswer} {k : ℕ} → p ≡ copied.Copied k → 0 ∷ k ∷ 0 ∷ [] ≡ cells 3 (recordAnswerOf p)
+-- The length of what was put out, or why nothing was.
+pub length-put : {p : PutAnswer} {k : ℕ} → p ≡ put.Put k → 0 ∷ k ∷ 0 ∷ [] ≡ cells 3 (putAnswerOf p)
 unfolding cells
-record-put e = rw e
+length-put e = rw e
 
-pub record-refused : {p : RecordAnswer} (cause : Refusal) {t : List ℕ} → p ≡ copied.Refused cause → t ≡ cells 3 (refusalOf cause)
-    → t ≡ cells 3 (recordAnswerOf p)
-record-refused cause e code = rw e code
+pub length-refused : {p : PutAnswer} (cause : Refusal) {t : List ℕ} → p ≡ put.Refused cause → t ≡ cells 3 (refusalOf cause)
+    → t ≡ cells 3 (putAnswerOf p)
+length-refused cause e code = rw e code
+
+-- A record's values, or its refusal.
+pub values-put : {p : ValuesAnswer} {v : RecordValues} → p ≡ read.Read v → 0 ∷ valuesOf v ≡ cells 5 (valuesAnswerOf p)
+unfolding cells
+values-put e = rw e
+
+pub values-refused : {p : ValuesAnswer} (cause : Refusal) {n x y : ℕ} → p ≡ read.Refused cause → n ∷ x ∷ y ∷ [] ≡ cells 3 (refusalOf cause)
+    → n ∷ x ∷ y ∷ 0 ∷ 0 ∷ [] ≡ cells 5 (valuesAnswerOf p)
+values-refused cause e code = rw e (code-more cause 2 code)
 
 -- What was collected: number and values, and the counts.
 pub collected-put : (r : Collected) {n x y : ℕ} → n ∷ x ∷ y ∷ [] ≡ cells 3 (verdictOf (r .verdict))

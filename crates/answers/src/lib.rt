@@ -2,10 +2,10 @@
 // values, then zeros.
 
 ghost use mathlib.Core.Path.{_≡_};
-ghost use Rattle.refusal.specs.Answer.{cells, refusalOf};
+ghost use Rattle.refusal.specs.Answer.{cells, refusalOf, putAnswerOf};
 ghost use Rattle.plan.specs.Planned.{planAnswerOf};
 ghost use Rattle.btree_v2_header.specs.Answers.{headerAnswerOf};
-ghost use Rattle.btree_v2_leaf_view.specs.Answers.{recordAnswerOf};
+ghost use Rattle.btree_v2_record.specs.Answers.{valuesAnswerOf};
 ghost use Rattle.btree_v2_collect.specs.Answers.{collectedCells};
 ghost use Rattle.btree_v2_find.specs.Answers.{foundCells};
 ghost use Prim.Native.Nat.{_+_, _≤_};
@@ -16,9 +16,10 @@ use btree_v2_collect::Collected;
 use btree_v2_find::Found;
 use btree_v2_find::Place;
 use btree_v2_header::HeaderAnswer;
-use btree_v2_leaf_view::RecordAnswer;
+use btree_v2_record::ValuesAnswer;
 use node_info::NodeInfoAnswer;
 use plan::PlanAnswer;
+use refusal::PutAnswer;
 use refusal::Refusal;
 use refusal::Verdict;
 
@@ -118,17 +119,38 @@ pub fn put_found(answer: &mut [u64; 6], found: Found)
     }
 }
 
-// The length of the record that was copied.
-pub fn put_record(answer: &mut [u64; 3], copied: RecordAnswer)
-    ensures { λ _. ⌜ now (answer .exit) ≡ cells 3 (recordAnswerOf copied) ⌝ }
+// The length of what was put out.
+pub fn put_length(answer: &mut [u64; 3], put: PutAnswer)
+    ensures { λ _. ⌜ now (answer .exit) ≡ cells 3 (putAnswerOf put) ⌝ }
 {
-    match copied {
-        RecordAnswer::Copied(length) => {
+    match put {
+        PutAnswer::Put(length) => {
             *answer = [0, length, 0];
         }
-        RecordAnswer::Refused(cause) => {
+        PutAnswer::Refused(cause) => {
             let code = cause.code();
             *answer = [code.number, code.first, code.second];
+        }
+    }
+}
+
+// A record's four values.
+pub fn put_values(answer: &mut [u64; 5], read: ValuesAnswer)
+    ensures { λ _. ⌜ now (answer .exit) ≡ cells 5 (valuesAnswerOf read) ⌝ }
+{
+    match read {
+        ValuesAnswer::Read(values) => {
+            *answer = [
+                0,
+                values.name_hash,
+                values.heap_id,
+                values.message_flags,
+                values.creation_order,
+            ];
+        }
+        ValuesAnswer::Refused(cause) => {
+            let code = cause.code();
+            *answer = [code.number, code.first, code.second, 0, 0];
         }
     }
 }

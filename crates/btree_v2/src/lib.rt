@@ -2,6 +2,7 @@
 // number, 0 where the call is accepted, then the figures or the refusal's values, then zeros.
 
 ghost use mathlib.Core.Path.{_≡_};
+ghost use mathlib.Core.List.{[], _∷_};
 ghost use Prim.Native.Nat.{_≤_};
 ghost use lib.ListN.{length, getD};
 ghost use Rattle.refusal.specs.Answer.{cells};
@@ -12,10 +13,12 @@ ghost use Rattle.btree_v2_header.specs.Header.{parsed, parsedAt};
 ghost use Rattle.btree_v2_collect.specs.Collect.{collected, collectedAt, runCells, runOutput};
 ghost use Rattle.btree_v2_find.specs.Find.{found, foundAt};
 ghost use Rattle.btree_v2_leaf_view.specs.Look.{recordAnswer, recordExit, recordAnswerAt, recordExitAt};
+ghost use Rattle.btree_v2_record.specs.Records.{recordRead, recordWritten, recordOutput};
 ghost use Rattle.btree_v2.specs.Given.{sizes, asked, given, headerOf, fieldAt};
 use btree_v2_collect::collect;
 use btree_v2_header::BTreeV2Header;
 use btree_v2_leaf_view::copy_leaf_record;
+use btree_v2_record::RecordValues;
 use field::Field;
 use format::Request;
 use node_info::Geometry;
@@ -300,7 +303,7 @@ pub extern "C" fn btree_v2_leaf_record_at(
     ensures outputLeft { λ _. ⌜ now (output .exit) ≡ recordExitAt (now (file .entry)) base «record_size» address count index (now (output .entry)) ⌝ }
 {
     let copied = copy_leaf_record(file, base, address, count, record_size, index, output);
-    answers::put_record(answer, copied);
+    answers::put_length(answer, copied);
 }
 
 #[no_mangle]
@@ -317,4 +320,37 @@ pub extern "C" fn btree_v2_leaf_record(
     ensures outputLeft { λ _. ⌜ now (output .exit) ≡ recordExit (now (file .entry)) «record_size» address count index (now (output .entry)) ⌝ }
 {
     btree_v2_leaf_record_at(file, 0, address, count, record_size, index, output, answer);
+}
+
+// The values of a record by their meaning: name hash, heap id, message flags, creation order.
+#[no_mangle]
+pub extern "C" fn btree_v2_record_read(tree_type: u8, bytes: &[u8], answer: &mut [u64; 5])
+    ensures { λ _. ⌜ now (answer .exit) ≡ cells 5 (recordRead «tree_type» (now (bytes .entry))) ⌝ }
+{
+    let read = btree_v2_record::read_record(tree_type, bytes);
+    answers::put_values(answer, read);
+}
+
+// A record with these values, put at the front of the output: its length.
+#[no_mangle]
+pub extern "C" fn btree_v2_record_write(
+    tree_type: u8,
+    name_hash: u64,
+    heap_id: u64,
+    message_flags: u64,
+    creation_order: u64,
+    output: &mut [u8],
+    answer: &mut [u64; 3],
+)
+    ensures answered { λ _. ⌜ now (answer .exit) ≡ cells 3 (recordWritten «tree_type» («name_hash» ∷ «heap_id» ∷ «message_flags» ∷ «creation_order» ∷ []) (now (output .entry))) ⌝ }
+    ensures outputLeft { λ _. ⌜ now (output .exit) ≡ recordOutput «tree_type» («name_hash» ∷ «heap_id» ∷ «message_flags» ∷ «creation_order» ∷ []) (now (output .entry)) ⌝ }
+{
+    let values = RecordValues {
+        name_hash,
+        heap_id,
+        message_flags,
+        creation_order,
+    };
+    let put = btree_v2_record::write_record(tree_type, values, output);
+    answers::put_length(answer, put);
 }

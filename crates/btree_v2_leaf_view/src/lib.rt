@@ -4,8 +4,8 @@
 ghost use mathlib.Core.Path.{_≡_};
 ghost use lib.ListN.{drop};
 ghost use Rattle.btree_v2_leaf_view.specs.Look.{lookTest, bytesIf, recordOf, lookTestAt, lookBytesAt, recordAnswerAt, recordExitAt};
-ghost use Rattle.refusal.specs.Answer.{verdictOf};
-ghost use Rattle.btree_v2_leaf_view.specs.Answers.{recordAnswerOf};
+ghost use Rattle.refusal.specs.Answer.{verdictOf, putAnswerOf};
+use refusal::PutAnswer;
 use refusal::Refusal;
 use refusal::Verdict;
 
@@ -21,12 +21,6 @@ pub struct LeafView<'a> {
 pub struct LeafAnswer<'a> {
     pub verdict: Verdict,
     pub view: LeafView<'a>,
-}
-
-// A record that was copied, by its length, or why none was.
-pub enum RecordAnswer {
-    Copied(u64),
-    Refused(Refusal),
 }
 
 // The tests of a look in a part of a file: a record has bytes, and the leaf's own.
@@ -129,19 +123,19 @@ pub fn copy_leaf_record(
     record_size: u16,
     index: u64,
     output: &mut [u8],
-) -> RecordAnswer
-    ensures answered { λ r. ⌜ recordAnswerOf r ≡ recordAnswerAt (now (file .entry)) base «record_size» address count index (now (output .entry)) ⌝ }
+) -> PutAnswer
+    ensures answered { λ r. ⌜ putAnswerOf r ≡ recordAnswerAt (now (file .entry)) base «record_size» address count index (now (output .entry)) ⌝ }
     ensures outputLeft { λ r. ⌜ now (output .exit) ≡ recordExitAt (now (file .entry)) base «record_size» address count index (now (output .entry)) ⌝ }
 {
     let verdict = check_view(file, base, address, count, record_size);
     if let Verdict::Refused(cause) = verdict {
-        return RecordAnswer::Refused(cause);
+        return PutAnswer::Refused(cause);
     }
     let records = records_of(verdict, file, base, address, count, record_size);
     let record = record_of(records, record_size, count, index);
     if output.len() < record.len() {
-        return RecordAnswer::Refused(Refusal::OutputTooShort(output.len() as u64));
+        return PutAnswer::Refused(Refusal::OutputTooShort(output.len() as u64));
     }
     numbers::put_bytes(output, 0, record);
-    RecordAnswer::Copied(record.len() as u64)
+    PutAnswer::Put(record.len() as u64)
 }

@@ -7,14 +7,14 @@ use crate::look_answers::LOOK_ROWS;
 use crate::rows;
 use crate::rows::MARK;
 use crate::tally::Tally;
-use btree_v2_leaf_view::RecordAnswer;
+use refusal::PutAnswer;
 
 // The three numbers of the answer.
-fn numbers(copied: RecordAnswer) -> [u64; 3]
+fn numbers(copied: PutAnswer) -> [u64; 3]
     ensures { λ r. ⌜ 3 ≡ length r ⌝ }
 {
     let mut numbers = [0; 3];
-    answers::put_record(&mut numbers, copied);
+    answers::put_length(&mut numbers, copied);
     numbers
 }
 

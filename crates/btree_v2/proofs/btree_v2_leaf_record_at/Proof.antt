@@ -10,4 +10,4 @@ btree-v2-leaf-record-at-spec =
     tie.close
     (tie.spec
     (λ c κs. search needs) (λ c κs. search needs) (λ c. search needs)
-    (λ c. let copy = c .before .before .before .before .copy-leaf-record .ensures in (put-is (copy .0) refl (c .put-record .ensures), copy .1)))
+    (λ c. let copy = c .before .before .before .before .copy-leaf-record .ensures in (put-is (copy .0) refl (c .put-length .ensures), copy .1)))

@@ -6,4 +6,4 @@ use Rattle.replay.proofs.look_replay.numbers.Statement.{statement}
 use Rattle.replay.proofs.look_replay.numbers.Tie as tie
 
 pub numbers-spec : {M : Type 1} → statement M
-numbers-spec = tie.close (tie.spec (λ c κs. search needs) (λ c. sym (put-length _ (c .put-record .ensures))))
+numbers-spec = tie.close (tie.spec (λ c κs. search needs) (λ c. sym (put-length _ (c .put-length .ensures))))
