@@ -16,18 +16,32 @@ enum Meaning {
     CreationOrder,
 }
 
-/// The fields of a record in their order, and their bytes.
-type Fields = [(Meaning, usize)];
+/// The fields of a record in their order with their bytes, and the bytes of the record.
+struct Layout {
+    fields: &'static [(Meaning, usize)],
+    length: usize,
+}
 
-const TYPE_5: &Fields = &[(NameHash, 4), (HeapId, 7)];
-const TYPE_6: &Fields = &[(CreationOrder, 8), (HeapId, 7)];
-const TYPE_8: &Fields = &[
+impl Layout {
+    const fn new(fields: &'static [(Meaning, usize)]) -> Layout {
+        let (mut length, mut i) = (0, 0);
+        while i < fields.len() {
+            length += fields[i].1;
+            i += 1;
+        }
+        Layout { fields, length }
+    }
+}
+
+const TYPE_5: &Layout = &Layout::new(&[(NameHash, 4), (HeapId, 7)]);
+const TYPE_6: &Layout = &Layout::new(&[(CreationOrder, 8), (HeapId, 7)]);
+const TYPE_8: &Layout = &Layout::new(&[
     (HeapId, 8),
     (MessageFlags, 1),
     (CreationOrder, 4),
     (NameHash, 4),
-];
-const TYPE_9: &Fields = &[(HeapId, 8), (MessageFlags, 1), (CreationOrder, 4)];
+]);
+const TYPE_9: &Layout = &Layout::new(&[(HeapId, 8), (MessageFlags, 1), (CreationOrder, 4)]);
 
 /// The refusals; that of a short output tells its length.
 const UNKNOWN_TYPE: u64 = 19;
@@ -37,8 +51,8 @@ const OUTPUT_TOO_SHORT: u64 = 15;
 /// Reads a record, and answers as the C function does: one loop for all types.
 #[inline(never)]
 pub fn read(tree_type: u8, record: &[u8]) -> [u64; 5] {
-    match fields(tree_type) {
-        Some(fields) => decode(fields, record),
+    match layout(tree_type) {
+        Some(layout) => decode(layout, record),
         None => [UNKNOWN_TYPE, 0, 0, 0, 0],
     }
 }
@@ -46,8 +60,8 @@ pub fn read(tree_type: u8, record: &[u8]) -> [u64; 5] {
 /// Writes a record, and answers as the C function does: one loop for all types.
 #[inline(never)]
 pub fn write(tree_type: u8, values: &Values, output: &mut [u8]) -> [u64; 3] {
-    match fields(tree_type) {
-        Some(fields) => encode(fields, values, output),
+    match layout(tree_type) {
+        Some(layout) => encode(layout, values, output),
         None => [UNKNOWN_TYPE, 0, 0],
     }
 }
@@ -76,12 +90,12 @@ pub fn write_by_type(tree_type: u8, values: &Values, output: &mut [u8]) -> [u64;
     }
 }
 
-/// The bytes of a record; none where the type has no fields.
+/// The bytes of a record; none where the type is not known.
 pub fn length(tree_type: u8) -> Option<usize> {
-    fields(tree_type).map(sum)
+    layout(tree_type).map(|layout| layout.length)
 }
 
-fn fields(tree_type: u8) -> Option<&'static Fields> {
+fn layout(tree_type: u8) -> Option<&'static Layout> {
     match tree_type {
         5 => Some(TYPE_5),
         6 => Some(TYPE_6),
@@ -91,20 +105,15 @@ fn fields(tree_type: u8) -> Option<&'static Fields> {
     }
 }
 
-#[inline(always)]
-fn sum(fields: &Fields) -> usize {
-    fields.iter().map(|(_, width)| width).sum()
-}
-
 /// Byte by byte: with a width that is not known this is quicker than a copy into eight bytes, and
 /// with one that is known the compiler makes the same of both.
 #[inline(always)]
-fn decode(fields: &Fields, record: &[u8]) -> [u64; 5] {
-    if record.len() != sum(fields) {
+fn decode(layout: &Layout, record: &[u8]) -> [u64; 5] {
+    if record.len() != layout.length {
         return [MISMATCH, 0, 0, 0, 0];
     }
     let (mut answer, mut rest) = ([0; 5], record);
-    for &(meaning, width) in fields {
+    for &(meaning, width) in layout.fields {
         let (own, behind) = rest.split_at(width);
         let bytes = own.iter().rev();
         answer[1 + meaning as usize] = bytes.fold(0, |high, low| high << 8 | u64::from(*low));
@@ -113,16 +122,17 @@ fn decode(fields: &Fields, record: &[u8]) -> [u64; 5] {
     answer
 }
 
+/// Byte by byte, as `decode`.
 #[inline(always)]
-fn encode(fields: &Fields, values: &Values, output: &mut [u8]) -> [u64; 3] {
-    if !fit(fields, values) {
+fn encode(layout: &Layout, values: &Values, output: &mut [u8]) -> [u64; 3] {
+    if !fit(layout, values) {
         return [MISMATCH, 0, 0];
     }
-    let (length, available) = (sum(fields), output.len());
-    let Some(mut rest) = output.get_mut(..length) else {
-        return [OUTPUT_TOO_SHORT, available as u64, 0];
+    let available = output.len() as u64;
+    let Some(mut rest) = output.get_mut(..layout.length) else {
+        return [OUTPUT_TOO_SHORT, available, 0];
     };
-    for &(meaning, width) in fields {
+    for &(meaning, width) in layout.fields {
         let (own, behind) = rest.split_at_mut(width);
         let mut value = values[meaning as usize];
         for byte in own {
@@ -131,18 +141,17 @@ fn encode(fields: &Fields, values: &Values, output: &mut [u8]) -> [u64; 3] {
         }
         rest = behind;
     }
-    [0, length as u64, 0]
+    [0, layout.length as u64, 0]
 }
 
-/// Whether nothing is left of the values above their fields.
+/// Whether each value is at most what its field holds, 0 where the type lacks it.
 #[inline(always)]
-fn fit(fields: &Fields, values: &Values) -> bool {
-    let mut left = *values;
-    for &(meaning, width) in fields {
-        let value = &mut left[meaning as usize];
-        *value = value.checked_shr(8 * width as u32).unwrap_or(0);
+fn fit(layout: &Layout, values: &Values) -> bool {
+    let mut most = [0; 4];
+    for &(meaning, width) in layout.fields {
+        most[meaning as usize] = u64::MAX >> (64 - 8 * width);
     }
-    left == [0; 4]
+    values.iter().zip(most).all(|(value, most)| *value <= most)
 }
 
 #[cfg(test)]

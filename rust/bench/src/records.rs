@@ -71,6 +71,7 @@ fn read(section: &mut Section, lists: &[List]) {
     row(section, "read", lists, contenders);
 }
 
+/// The answers are lent to the black box: moving them there would take a part of the time.
 fn reader<'a>(
     name: &'static str,
     lists: &'a [List],
@@ -79,7 +80,7 @@ fn reader<'a>(
     Contender::new(name, move || {
         for list in lists {
             for record in list.records.chunks_exact(list.size) {
-                black_box(read(black_box(list.tree_type), record));
+                black_box(&read(black_box(list.tree_type), record));
             }
         }
     })
@@ -111,7 +112,7 @@ fn writer<'a>(
         let mut output = output.borrow_mut();
         let records = output.chunks_exact_mut(list.size);
         for (values, record) in list.values.iter().zip(records) {
-            black_box(write(black_box(list.tree_type), values, record));
+            black_box(&write(black_box(list.tree_type), values, record));
         }
     };
     for list in lists {
