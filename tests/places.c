@@ -179,11 +179,42 @@ static void reads(void) {
     refused(h, BTREE_V2_WRONG_VERSION, 1, 0);
 }
 
+/* Writes an attribute's record by name, which has every field, and reads it back. */
+static void records_by_meaning(void) {
+    uint64_t w[BTREE_V2_RECORD_WRITE_PLACES], r[BTREE_V2_RECORD_READ_PLACES];
+    uint8_t record[BTREE_V2_TYPE_8_RECORD_SIZE + 1];
+    btree_v2_record_write(8, 0x04030201, 7, 9, 1000, record, sizeof record, w);
+    hold(w[BTREE_V2_REFUSAL], BTREE_V2_ACCEPTED, "write of a record");
+    hold(w[BTREE_V2_RECORD_WRITE_LENGTH], BTREE_V2_TYPE_8_RECORD_SIZE, "its length");
+    btree_v2_record_read(8, record, BTREE_V2_TYPE_8_RECORD_SIZE, r);
+    hold(r[BTREE_V2_REFUSAL], BTREE_V2_ACCEPTED, "read of a record");
+    hold(r[BTREE_V2_RECORD_READ_NAME_HASH], 0x04030201, "name hash");
+    hold(r[BTREE_V2_RECORD_READ_HEAP_ID], 7, "heap id");
+    hold(r[BTREE_V2_RECORD_READ_MESSAGE_FLAGS], 9, "message flags");
+    hold(r[BTREE_V2_RECORD_READ_CREATION_ORDER], 1000, "creation order");
+
+    btree_v2_record_read(5, record, BTREE_V2_TYPE_5_RECORD_SIZE, r);
+    hold(r[BTREE_V2_REFUSAL], BTREE_V2_ACCEPTED, "read of type 5");
+    btree_v2_record_read(6, record, BTREE_V2_TYPE_6_RECORD_SIZE, r);
+    hold(r[BTREE_V2_REFUSAL], BTREE_V2_ACCEPTED, "read of type 6");
+    btree_v2_record_read(9, record, BTREE_V2_TYPE_9_RECORD_SIZE, r);
+    hold(r[BTREE_V2_REFUSAL], BTREE_V2_ACCEPTED, "read of type 9");
+    btree_v2_record_read(7, record, BTREE_V2_TYPE_8_RECORD_SIZE, r);
+    refused(r, BTREE_V2_UNKNOWN_RECORD_TYPE, 0, 0);
+    btree_v2_record_read(8, record, sizeof record, r);
+    refused(r, BTREE_V2_RECORD_TYPE_MISMATCH, 0, 0);
+    btree_v2_record_write(5, 1, 2, 3, 0, record, sizeof record, w);
+    refused(w, BTREE_V2_RECORD_TYPE_MISMATCH, 0, 0);
+    btree_v2_record_write(5, 1, 2, 0, 0, record, BTREE_V2_TYPE_5_RECORD_SIZE - 1, w);
+    refused(w, BTREE_V2_OUTPUT_TOO_SHORT, BTREE_V2_TYPE_5_RECORD_SIZE - 1, 0);
+}
+
 int main(void) {
     for (size_t i = 0; i < sizeof records; i++) records[i] = (uint8_t)(i * 7 + 1);
     table();
     plans();
     writes();
     reads();
+    records_by_meaning();
     return differ;
 }

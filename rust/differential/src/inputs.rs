@@ -91,3 +91,26 @@ pub struct RecordValues {
     pub message_flags: u64,
     pub creation_order: u64,
 }
+
+impl RecordValues {
+    /// The values in the order of a read's answer.
+    pub fn of_figures(figures: [u64; 4]) -> RecordValues {
+        let [name_hash, heap_id, message_flags, creation_order] = figures;
+        RecordValues {
+            name_hash,
+            heap_id,
+            message_flags,
+            creation_order,
+        }
+    }
+
+    /// The same back.
+    pub fn figures(&self) -> [u64; 4] {
+        [
+            self.name_hash,
+            self.heap_id,
+            self.message_flags,
+            self.creation_order,
+        ]
+    }
+}

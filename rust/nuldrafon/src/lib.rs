@@ -17,7 +17,8 @@
 //! | read a header | [`Header::parse`], or [`Header::parse_at`] behind a block |
 //! | read all records | [`Header::collect_to_vec`], or [`Header::collect`] into a lent buffer |
 //! | find one record by a number in it | [`Header::find`] |
-//! | read or write a record by its fields | [`RecordValues::read`], [`RecordValues::write_to_vec`] |
+//! | read a record by its fields | [`RecordValues::read`] |
+//! | write one | [`RecordValues::write_to_vec`], or [`RecordValues::write`] into a lent buffer |
 //! | look at the records of one leaf | [`LeafView::new`], or [`LeafView::new_at`] behind a block |
 //! | know what nodes hold at most | [`Geometry::node_info`] |
 //! | sum bytes as HDF5 does | [`jenkins_lookup3`] |

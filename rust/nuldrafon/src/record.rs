@@ -7,10 +7,10 @@ use crate::refusal::{accepted, Refusal};
 ///
 /// | Tree type | Index of | Fields, with their bytes |
 /// |---|---|---|
-/// | 5 | links of a group, by name | name hash 4, heap id 7 |
-/// | 6 | links of a group, by creation order | creation order 8, heap id 7 |
-/// | 8 | attributes of an object, by name | heap id 8, message flags 1, creation order 4, name hash 4 |
-/// | 9 | attributes of an object, by creation order | heap id 8, message flags 1, creation order 4 |
+/// | 5 | links by name | name hash 4, heap id 7 |
+/// | 6 | links by creation order | creation order 8, heap id 7 |
+/// | 8 | attributes by name | heap id 8, message flags 1, creation order 4, name hash 4 |
+/// | 9 | attributes by creation order | heap id 8, message flags 1, creation order 4 |
 ///
 /// A value whose field the type lacks is read as 0, and has to be 0 to be written. Reading and
 /// writing are inverse.

@@ -181,8 +181,8 @@ causes! {
     UnknownRecordType = 19:
         "the tree type is not 5, 6, 8 or 9";
 
-    /// A record's length is not that of its tree type, or a value is too large for its field, as any
-    /// but 0 is where the type lacks the field.
+    /// A record's length is not that of its tree type, or a value is too large for its field, as
+    /// any but 0 is where the type lacks the field.
     RecordTypeMismatch = 20:
         "the record's length is not that of its type, or a value is too large for its field";
 }

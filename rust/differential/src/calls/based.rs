@@ -1,6 +1,6 @@
 //! Calls that take a base, and the faults that each of their suites has to notice.
 
-use super::case::{Case, Fault};
+use super::case::{refuse, take, Case, Fault};
 use crate::inputs::Tree;
 use crate::model::LEVEL_LIMIT;
 
@@ -16,12 +16,6 @@ pub trait Based: Case + Sized {
     fn part(&self) -> Option<&[u8]> {
         self.file().get(usize::try_from(self.base()).ok()?..)
     }
-
-    /// Puts the right answer of another read in the place of this one's.
-    fn take(other: &Self, answer: &mut Self::Answer, lent: &mut Self::Lent) {
-        *lent = other.lend();
-        *answer = other.model(lent);
-    }
 }
 
 /// A read of the tree under a header.
@@ -30,27 +24,19 @@ pub trait OfTree: Based {
     fn tree(&self) -> Tree;
 }
 
-/// Puts a refusal, or the acceptance of nothing, in the place of an answer.
-pub fn refuse<C: Case>(case: &C, told: [u64; 3], answer: &mut C::Answer, lent: &mut C::Lent) {
-    *lent = case.lend();
-    let numbers = answer.as_mut();
-    numbers.fill(0);
-    numbers[..3].copy_from_slice(&told);
-}
-
 /// The faults of every call that takes a base.
 pub fn faults<C: Based>() -> Vec<Fault<C>> {
     vec![
         Fault::<C>::both("the base left out", |case, answer, lent| {
-            C::take(&case.at(0), answer, lent);
+            take(&case.at(0), answer, lent);
         }),
         Fault::<C>::both("the base added twice", |case, answer, lent| {
             let twice = case.base().saturating_mul(2);
-            C::take(&case.at(twice), answer, lent);
+            take(&case.at(twice), answer, lent);
         }),
         Fault::<C>::model_alone("a base cut to 32 bits", |case, answer, lent| {
             let cut = case.base() % (1 << 32);
-            C::take(&case.at(cut), answer, lent);
+            take(&case.at(cut), answer, lent);
         }),
         Fault::<C>::both("a base at the file's end refused", |case, answer, lent| {
             if case.base() == case.file().len() as u64 {

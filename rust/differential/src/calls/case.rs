@@ -107,6 +107,20 @@ impl<C: Case> Fault<C> {
     }
 }
 
+/// Puts the right answer of another case in the place of this one's.
+pub fn take<C: Case>(other: &C, answer: &mut C::Answer, lent: &mut C::Lent) {
+    *lent = other.lend();
+    *answer = other.model(lent);
+}
+
+/// Puts a refusal, or the acceptance of nothing, in the place of an answer.
+pub fn refuse<C: Case>(case: &C, told: [u64; 3], answer: &mut C::Answer, lent: &mut C::Lent) {
+    *lent = case.lend();
+    let numbers = answer.as_mut();
+    numbers.fill(0);
+    numbers[..3].copy_from_slice(&told);
+}
+
 /// The names of a call's faults, and who shows them.
 pub fn faults<C: Case>() -> Vec<(&'static str, ShownBy)> {
     let faults = C::faults().into_iter();

@@ -8,10 +8,12 @@ pub mod leaf_record;
 pub mod node_info;
 pub mod parse;
 pub mod plan;
+pub mod record_read;
+pub mod record_write;
 pub mod typed;
 pub mod write;
 
-use crate::compare::Family;
+use crate::compare::{records, Family};
 pub use case::{By, Case, Fault, ShownBy};
 
 /// A call, and what its suite is made of.
@@ -193,6 +195,35 @@ pub static CALLS: &[Call] = &[
         large: &[part("large-keys", find::of_many_records).soaks()],
         large_refusals: &[1, 6],
         faults: case::faults::<find::Finding>,
+    },
+    Call {
+        name: "record_read",
+        refusals: &[19, 20],
+        outcomes: &records::NAMES,
+        suite: &[
+            part("record-lengths", record_read::of_every_type_and_length).notices(),
+            part("record-bytes", record_read::of_every_byte).notices(),
+            part("long-records", record_read::of_long_records).notices(),
+            part("any-records", record_read::of_any_bytes).soaks(),
+        ],
+        large: &[],
+        large_refusals: &[],
+        faults: case::faults::<record_read::RecordReading>,
+    },
+    Call {
+        name: "record_write",
+        refusals: &[15, 19, 20],
+        outcomes: &records::NAMES,
+        suite: &[
+            part("value-limits", record_write::at_the_limits_of_fields).notices(),
+            part("value-combinations", record_write::with_values_combined).notices(),
+            part("value-causes", record_write::with_several_causes).notices(),
+            part("long-outputs", record_write::into_long_outputs).notices(),
+            part("any-values", record_write::of_any_values).soaks(),
+        ],
+        large: &[],
+        large_refusals: &[],
+        faults: case::faults::<record_write::RecordDraft>,
     },
 ];
 

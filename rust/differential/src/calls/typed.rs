@@ -1,9 +1,9 @@
 //! The inputs and refusals of the comparisons in the types of the crate nuldrafon, and back.
 
-use nuldrafon::{Geometry, Header, Plan, Refusal, WriteRequest};
+use nuldrafon::{Geometry, Header, Plan, RecordValues, Refusal, WriteRequest};
 
 use super::case::Told;
-use crate::inputs::{Tree, Writing};
+use crate::inputs::{self, Tree, Writing};
 use crate::model;
 
 impl Told for Refusal {
@@ -49,4 +49,23 @@ pub fn request<'a>(given: &Writing<'a>) -> WriteRequest<'a> {
 /// The figures of a plan in the order of an answer.
 pub fn figures(plan: Plan) -> [u64; 4] {
     [plan.depth.into(), plan.nodes, plan.leaves, plan.image_size]
+}
+
+pub fn values(values: &inputs::RecordValues) -> RecordValues {
+    RecordValues {
+        name_hash: values.name_hash,
+        heap_id: values.heap_id,
+        message_flags: values.message_flags,
+        creation_order: values.creation_order,
+    }
+}
+
+/// The values of a record in the order of an answer.
+pub fn figures_of_record(values: RecordValues) -> [u64; 4] {
+    [
+        values.name_hash,
+        values.heap_id,
+        values.message_flags,
+        values.creation_order,
+    ]
 }

@@ -7,6 +7,7 @@ pub mod graft;
 pub mod grid;
 pub mod keyed;
 pub mod nodes;
+pub mod records;
 pub mod rust;
 pub mod sample;
 mod tally;

@@ -7,6 +7,7 @@ pub mod headers;
 pub mod images;
 pub mod looks;
 pub mod plans;
+pub mod records;
 
 use crate::calls::By;
 use crate::compare::{Comparison, Family, Held};
@@ -23,13 +24,15 @@ pub struct List {
     pub family: Family,
 }
 
-pub const LISTS: [List; 6] = [
+pub const LISTS: [List; 8] = [
     plans::LIST,
     images::LIST,
     headers::LIST,
     collecting::LIST,
     looks::LIST,
     finding::LIST,
+    records::READ,
+    records::WRITTEN,
 ];
 
 impl List {
@@ -38,9 +41,11 @@ impl List {
         hold_text(&(self.text)(by), self.stored)
     }
 
-    /// Holds the model to the Rust on the list's inputs.
-    pub fn agrees(&self) -> Held {
-        Comparison::of_model(self.name).run([self.family], 0)
+    /// Holds the model to the Rust on the list's inputs; returns to how many the Rust has an answer.
+    pub fn agrees(&self) -> Result<u64, String> {
+        let mut comparison = Comparison::of_model(self.name);
+        comparison.run([self.family], 0)?;
+        Ok(comparison.tally.with_rust())
     }
 }
 

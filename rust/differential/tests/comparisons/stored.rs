@@ -11,11 +11,11 @@ fn lists() {
         list.hold(By::Rattle).expect("the stored list is given");
         list.hold(By::Model)
             .expect("the model gives the stored list");
-        let by = match rust_is_there() {
+        let with_rust = list.agrees().expect("the Rust gives the stored list");
+        let by = match rust_is_there() && with_rust > 0 {
             true => "the Rust and the model agree",
             false => "the model agrees",
         };
-        list.agrees().expect("the Rust gives the stored list");
         say(&format!("the stored list of {}: {by}", list.name));
     }
 }

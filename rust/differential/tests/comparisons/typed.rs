@@ -8,7 +8,9 @@ use differential::calls::By;
 use differential::compare::sample;
 use differential::random::Random;
 use differential::report::say;
-use nuldrafon::{jenkins_lookup3, Field, Geometry, Header, LeafView, Refusal, WriteRequest};
+use nuldrafon::{
+    jenkins_lookup3, Field, Geometry, Header, LeafView, RecordValues, Refusal, WriteRequest,
+};
 
 const SEED: u64 = 0x0bad_5eed_0000_0003;
 const ROUNDS: usize = 200_000;
@@ -129,6 +131,7 @@ fn reads(file: &[u8], sample: Option<Header>, random: &mut Random) {
     let found = header.find(file, key, any(random));
     let _ = found.map_err(told_with_counts);
     looks(file, &header, random);
+    records(file, random);
 }
 
 fn looks(file: &[u8], header: &Header, random: &mut Random) {
@@ -149,6 +152,24 @@ fn looks(file: &[u8], header: &Header, random: &mut Random) {
             Err(refusal) => told(&refusal),
         }
     }
+}
+
+/// Records by their meaning, mostly of a known type.
+fn records(file: &[u8], random: &mut Random) {
+    let tree_type = [5, 6, 8, 9, any(random) as u8][random.up_to(4) as usize];
+    let length = file.len().min(random.up_to(20) as usize);
+    let read = RecordValues::read(tree_type, &file[..length]);
+    let values = read.inspect_err(told).unwrap_or_else(|_| RecordValues {
+        name_hash: any(random),
+        heap_id: any(random),
+        message_flags: any(random),
+        creation_order: any(random),
+    });
+    let mut output = vec![0; random.any_magnitude(40) as usize];
+    let written = values.write(tree_type, &mut output);
+    let _ = written.map_err(|refusal| told(&refusal));
+    let written = values.write_to_vec(tree_type);
+    let _ = written.map_err(|refusal| told(&refusal));
 }
 
 #[test]

@@ -1,8 +1,8 @@
 //! Faults of a find, for the suite to notice.
 
 use super::{numbers, Finding, Search};
-use crate::calls::based::{self, refuse, Based};
-use crate::calls::case::Told;
+use crate::calls::based::{self, Based};
+use crate::calls::case::{refuse, Told};
 use crate::calls::{Case, Fault};
 use crate::compare::keyed::most;
 use crate::inputs::Field;

@@ -1,7 +1,8 @@
 //! Faults of a look at a leaf, for the suite to notice.
 
 use super::Look;
-use crate::calls::based::{self, refuse, Based};
+use crate::calls::based::{self, Based};
+use crate::calls::case::refuse;
 use crate::calls::Fault;
 
 /// Hands out a record that begins so many bytes after the first, where file and output have it.

@@ -2,3 +2,4 @@
 
 mod bases;
 mod finding;
+mod records;
