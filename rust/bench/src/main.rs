@@ -10,7 +10,9 @@ mod header;
 mod machine;
 mod memory;
 mod plain;
+mod plain_record;
 mod plan;
+mod records;
 mod timing;
 mod typed;
 mod write;
@@ -19,13 +21,14 @@ mod write;
 static HEAP: memory::Counted = memory::Counted;
 
 /// The parts; the header reader's takes its headers from the collector's files.
-const PARTS: [(&str, fn()); 7] = [
+const PARTS: [(&str, fn()); 8] = [
     ("checksum", checksum::run),
     ("plan", plan::run),
     ("write", write::run),
     ("read", || header::run(&collect::run())),
     ("find", find::run),
     ("base", base::run),
+    ("records", records::run),
     ("types", typed::run),
 ];
 

@@ -1,5 +1,7 @@
 //! The list beside a file: what the HDF5 library says is in it.
 
+use std::mem::swap;
+
 use crate::bytes::Fault;
 use crate::superblock::Sizes;
 
@@ -23,6 +25,32 @@ pub enum Entries {
     Links(Vec<Named>),
     Attributes(Vec<Named>),
     Chunks(Vec<Chunk>),
+}
+
+impl Entries {
+    /// Exchanges what the first and the last entry have.
+    pub fn exchange(&mut self) {
+        match self {
+            Entries::Links(all) | Entries::Attributes(all) => {
+                if let [first, .., last] = &mut all[..] {
+                    swap(&mut first.order, &mut last.order);
+                }
+            }
+            Entries::Chunks(all) => {
+                if let [first, .., last] = &mut all[..] {
+                    swap(&mut first.value, &mut last.value);
+                }
+            }
+        }
+    }
+
+    /// Removes the last entry.
+    pub fn shorten(&mut self) {
+        match self {
+            Entries::Links(all) | Entries::Attributes(all) => drop(all.pop()),
+            Entries::Chunks(all) => drop(all.pop()),
+        }
+    }
 }
 
 pub struct List {

@@ -7,6 +7,7 @@ mod graft;
 mod lexists;
 mod library;
 mod list;
+mod meaning;
 mod superblock;
 mod tree;
 
@@ -19,6 +20,7 @@ use find::Finds;
 use graft::{Written, DAMAGES};
 use library::{files_py, Folder};
 use list::{Entries, List};
+use meaning::Meanings;
 use tree::Tree;
 
 /// Trees of up to so many records are also damaged, in every way and at nodes of this size.
@@ -66,13 +68,27 @@ impl Done {
     }
 }
 
+/// What was seen in files: the finds, and the records of the library's trees by their meaning.
+#[derive(Clone, Copy, Default)]
+struct Seen {
+    finds: Finds,
+    meanings: Meanings,
+}
+
+impl Seen {
+    fn add(&mut self, other: Seen) {
+        self.finds.add(other.finds);
+        self.meanings.add(other.meanings);
+    }
+}
+
 /// A real file, read.
 struct Real {
     name: String,
     bytes: Vec<u8>,
     list: List,
     trees: Vec<Tree>,
-    finds: Finds,
+    seen: Seen,
 }
 
 fn main() -> ExitCode {
@@ -94,10 +110,10 @@ fn run() -> Result<(), Fault> {
          ours: node size/depth/nodes"
     );
     let (mut done, mut behind) = (Done::default(), Done::default());
-    let mut finds = Finds::default();
+    let mut seen = Seen::default();
     for path in listed(made.path())? {
         let mut real = Real::read(&path)?;
-        let of_this = real.hold(&folder, &made, &path, &mut finds)?;
+        let of_this = real.hold(&folder, &made, &path, &mut seen)?;
         done.add(&of_this);
         if real.list.sizes.block > 0 {
             behind.add(&of_this);
@@ -105,12 +121,16 @@ fn run() -> Result<(), Fault> {
     }
     done.print("files")?;
     behind.print("of these behind a block, where with base 0 no tree comes out")?;
+    let Finds {
+        found,
+        shared,
+        absent,
+    } = seen.finds;
     println!(
-        "{} records found by their keys, {} of them those of another name with the same hash; {} \
-         keys that are not there",
-        finds.found, finds.shared, finds.absent
+        "{found} records found by their keys, {shared} of them those of another name with the same \
+         hash; {absent} keys that are not there"
     );
-    Ok(())
+    seen.meanings.print()
 }
 
 /// The files of the folder that have a list, in order.
@@ -143,9 +163,9 @@ impl Real {
             bytes,
             list,
             trees,
-            finds: Finds::default(),
+            seen: Seen::default(),
         };
-        real.finds = real.check()?;
+        real.seen = real.check()?;
         Ok(real)
     }
 
@@ -155,14 +175,14 @@ impl Real {
         folder: &Folder,
         made: &Folder,
         path: &Path,
-        finds: &mut Finds,
+        seen: &mut Seen,
     ) -> Result<Done, Fault> {
-        finds.add(self.finds);
+        seen.add(self.seen);
         let ours = folder.inner("ours")?;
-        let written = self.graft_all(&ours, finds)?;
+        let written = self.graft_all(&ours, &mut seen.finds)?;
         files_py("look", &[made, &ours])?;
         self.print(&written)?;
-        let grown = self.grow(folder, finds)?;
+        let grown = self.grow(folder, seen)?;
         self.time(path, made)?;
         Ok(Done {
             real: 1,
@@ -172,13 +192,20 @@ impl Real {
         })
     }
 
-    fn check(&self) -> Result<Finds, Fault> {
-        check::file(
-            &self.bytes,
-            self.list.sizes,
-            &self.trees,
-            &self.list.entries,
-        )
+    fn check(&self) -> Result<Seen, Fault> {
+        Ok(Seen {
+            finds: self.finds()?,
+            meanings: self.meanings()?,
+        })
+    }
+
+    fn finds(&self) -> Result<Finds, Fault> {
+        let List { sizes, entries } = &self.list;
+        check::file(&self.bytes, *sizes, &self.trees, entries)
+    }
+
+    fn meanings(&self) -> Result<Meanings, Fault> {
+        meaning::file(&self.trees, &self.list.entries)
     }
 
     /// A copy of the file for each node size, with our trees of that size, which ours reads too.
@@ -210,7 +237,7 @@ impl Real {
     }
 
     /// Has the library change files with our trees, and reads these again. Returns how many.
-    fn grow(&self, folder: &Folder, finds: &mut Finds) -> Result<usize, Fault> {
+    fn grow(&self, folder: &Folder, seen: &mut Seen) -> Result<usize, Fault> {
         if self.unread() || self.trees[0].header.total_records > MOST_GROWN {
             return Ok(0);
         }
@@ -224,7 +251,7 @@ impl Real {
             let changed = Real::read(&path)?;
             let stays = changed.bytes[block] == self.bytes[block];
             same("the block stays", stays, true)?;
-            finds.add(changed.finds);
+            seen.add(changed.seen);
         }
         Ok(GROWN_NODE_SIZES.len())
     }
@@ -306,20 +333,34 @@ impl Real {
         Ok(count + self.notices_reading()?)
     }
 
-    /// A record with another byte, and a list without its last entry.
+    /// A record with another byte, whichever it is, a list with two entries exchanged, and one
+    /// without its last entry.
     fn notices_reading(&mut self) -> Result<usize, Fault> {
+        let mut count = 0;
         for i in 0..self.trees.len() {
-            let middle = self.trees[i].records.len() / 2;
-            self.trees[i].records[middle] ^= 1;
-            same("a changed record is noticed", self.check().is_err(), true)?;
-            self.trees[i].records[middle] ^= 1;
+            let size = self.trees[i].record_size();
+            let middle = self.trees[i].rows().count() / 2 * size;
+            for at in middle..middle + size {
+                self.trees[i].records[at] ^= 1;
+                self.noticed("a changed record is noticed")?;
+                self.trees[i].records[at] ^= 1;
+                count += 1;
+            }
         }
         self.check()?;
-        match &mut self.list.entries {
-            Entries::Links(all) | Entries::Attributes(all) => drop(all.pop()),
-            Entries::Chunks(all) => drop(all.pop()),
-        }
-        same("a short list is noticed", self.check().is_err(), true)?;
-        Ok(self.trees.len() + 1)
+        self.list.entries.exchange();
+        self.noticed("an exchange in the list is noticed")?;
+        self.list.entries.exchange();
+        self.check()?;
+        self.list.entries.shorten();
+        self.noticed("a short list is noticed")?;
+        Ok(count + 2)
+    }
+
+    /// By the records' bytes, and by their meaning where that is read.
+    fn noticed(&self, what: &str) -> Result<(), Fault> {
+        let by_both = [self.finds().is_err(), self.meanings().is_err()];
+        let named = !matches!(self.list.entries, Entries::Chunks(_));
+        same(what, by_both, [true, named])
     }
 }
