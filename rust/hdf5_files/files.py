@@ -20,7 +20,8 @@ import numpy as np
 from h5py import h5, h5a, h5d, h5f, h5g, h5l, h5p, h5s, h5t
 
 # Kind, entries, size of offsets, size of lengths, what is done when all are made: nothing,
-# "thinned" (a third is removed again) or "emptied". What the library cannot read back is "unread".
+# "thinned" (a third is removed again) or "emptied". What the library cannot read back is "unread",
+# and a file that shares the messages of attributes "shared": their flags are not 0 then.
 FILES = [
     ("links", 10, 2, 2, "unread"),
     ("links", 10, 4, 4, ""),
@@ -32,6 +33,7 @@ FILES = [
     ("attributes", 10, 4, 4, ""),
     ("attributes", 10, 8, 8, ""),
     ("attributes", 300, 4, 4, "thinned"),
+    ("attributes", 300, 8, 8, "shared"),
     ("attributes", 10_000, 8, 4, ""),
     ("attributes", 65_000, 4, 4, ""),
     ("chunks", 10, 8, 8, "emptied"),
@@ -77,6 +79,10 @@ ADDED = 500
 MOST_PLACES = 10_000
 
 ORDERED = h5p.CRT_ORDER_TRACKED | h5p.CRT_ORDER_INDEXED
+
+# H5O_SHMESG_ATTR_FLAG, and the most messages of which the library keeps a list.
+SHARED_ATTRIBUTES = 1 << 12
+MOST_SHARED = 5_000
 
 # The library that h5py has loaded, for calls that h5py does not offer.
 with open("/proc/self/maps") as maps:
@@ -293,6 +299,8 @@ def make(folder):
         creation = h5p.create(h5p.FILE_CREATE)
         creation.set_sizes(offsets, lengths)
         creation.set_userblock(block)
+        if then == "shared":
+            share(creation)
         access = h5p.create(h5p.FILE_ACCESS)
         access.set_libver_bounds(h5f.LIBVER_LATEST, h5f.LIBVER_LATEST)
         file = h5f.create(bytes(path), h5f.ACC_EXCL, creation, access)
@@ -309,6 +317,14 @@ def make(folder):
             write_list(path, said(path))
     (folder / "library").write_text(LIBRARY._name)
     print(f"HDF5 {h5py.version.hdf5_version}, h5py {h5py.version.version}")
+
+
+def share(creation):
+    """Has a file keep the messages of attributes in one place, which has a list of them."""
+    properties = ctypes.c_int64(creation.id)
+    LIBRARY.H5Pset_shared_mesg_nindexes(properties, 1)
+    LIBRARY.H5Pset_shared_mesg_index(properties, 0, SHARED_ATTRIBUTES, 1)
+    LIBRARY.H5Pset_shared_mesg_phase_change(properties, MOST_SHARED, 0)
 
 
 def fill(path, block):

@@ -324,10 +324,10 @@ pub extern "C" fn btree_v2_leaf_record(
 
 // The values of a record by their meaning: name hash, heap id, message flags, creation order.
 #[no_mangle]
-pub extern "C" fn btree_v2_record_read(tree_type: u8, bytes: &[u8], answer: &mut [u64; 5])
-    ensures { λ _. ⌜ now (answer .exit) ≡ cells 5 (recordRead «tree_type» (now (bytes .entry))) ⌝ }
+pub extern "C" fn btree_v2_record_read(tree_type: u8, record: &[u8], answer: &mut [u64; 5])
+    ensures { λ _. ⌜ now (answer .exit) ≡ cells 5 (recordRead «tree_type» (now («record» .entry))) ⌝ }
 {
-    let read = btree_v2_record::read_record(tree_type, bytes);
+    let read = btree_v2_record::read_record(tree_type, record);
     answers::put_values(answer, read);
 }
 

@@ -11,15 +11,15 @@ use Rattle.numbers.specs.Numbers.{part}
 use Rattle.numbers.specs.Places.{stored, over}
 use Rattle.numbers.proofs.Copying.{over-stored}
 use Rattle.refusal.specs.Answer.{Answer, accepted, refused, orElse, ifAccepted}
-use Rattle.btree_v2_record.specs.Records.{table, isIn, fieldsIn, recordLength, recordBytes, valuesFit, recordRead, recordWritten, recordOutput}
+use Rattle.btree_v2_record.specs.Records.{fieldTable, isIn, fieldsIn, recordLength, recordBytes, valuesFit, recordRead, recordWritten, recordOutput}
 use Rattle.btree_v2_record.specs.Steps.{allFields, filled, FirstField}
 use Rattle.btree_v2_record.proofs.Values.{table-each-once, values-read}
 
 module _ (t first : ℕ) (at : FirstField t first) where
-  unknown : 16 ≤ first → isIn table t ≡ false
+  unknown : 16 ≤ first → isIn fieldTable t ≡ false
   unknown h = at .known ∙ le-ltb first 16 h
 
-  known : first < 16 → isIn table t ≡ true
+  known : first < 16 → isIn fieldTable t ≡ true
   known h = at .known ∙ lt-ltb first 16 h
 
   -- Four fields from there on are within the table.
@@ -32,17 +32,17 @@ module _ (t first : ℕ) (at : FirstField t first) where
     unfolding recordRead
     read-unknown h = rw (unknown h)
 
-    module _ (n : ℕ) (h : first < 16) (size : n ≡ recordLength (part (allFields table) first 4)) where
+    module _ (n : ℕ) (h : first < 16) (size : n ≡ recordLength (part (allFields fieldTable) first 4)) where
       pub read-mismatch : (length b ≡ n → ⊥) → refused 20 [] ≡ recordRead t b
       unfolding recordRead
       read-mismatch other = rw (known h, at .fields, ← size, ne-eqb (length b) n other)
 
-      pub read-accepted : (v : List ℕ) → length b ≡ n → v ≡ filled (part (allFields table) first 4) b (replicate 4 0)
+      pub read-accepted : (v : List ℕ) → length b ≡ n → v ≡ filled (part (allFields fieldTable) first 4) b (replicate 4 0)
           → accepted (getD v 0 0 ∷ getD v 1 0 ∷ getD v 2 0 ∷ getD v 3 0 ∷ []) ≡ recordRead t b
       unfolding recordRead
       read-accepted v long is =
-          let values = values-read (fieldsIn table t) b v (table-each-once t (known h)) (rw (at .fields) is) in
-          let same : length b ≡ recordLength (fieldsIn table t) = rw (at .fields) (long ∙ size) in
+          let values = values-read (fieldsIn fieldTable t) b v (table-each-once t (known h)) (rw (at .fields) is) in
+          let same : length b ≡ recordLength (fieldsIn fieldTable t) = rw (at .fields) (long ∙ size) in
           rw (known h, eq-eqb _ _ same, ← values)
 
   -- `write_record`.
@@ -59,17 +59,17 @@ module _ (t first : ℕ) (at : FirstField t first) where
     unfolding recordWritten
     write-unknown h = refused-left 19 [] (rw (unknown h))
 
-    module _ (fit : Bool) (h : first < 16) (is : fit ≡ valuesFit (part (allFields table) first 4) v) where
+    module _ (fit : Bool) (h : first < 16) (is : fit ≡ valuesFit (part (allFields fieldTable) first 4) v) where
       pub write-mismatch : not fit ≡ true → Wrote (refused 20 []) out
       unfolding recordWritten
       write-mismatch e = refused-left 20 [] (rw (known h, at .fields, ← is, not-true fit e))
 
-      module _ (n : ℕ) (yes : not fit ≡ false) (size : n ≡ recordLength (part (allFields table) first 4)) where
+      module _ (n : ℕ) (yes : not fit ≡ false) (size : n ≡ recordLength (part (allFields fieldTable) first 4)) where
         pub write-short : length out < n → Wrote (refused 15 (length out ∷ [])) out
         unfolding recordWritten
         write-short short = refused-left 15 (length out ∷ []) (rw (known h, at .fields, ← is, not-false fit yes, ← size, lt-leb n (length out) short))
 
-        pub write-accepted : (exit : List ℕ) → n ≤ length out → exit ≡ stored out 0 (recordBytes (part (allFields table) first 4) v) → Wrote (accepted (n ∷ [])) exit
+        pub write-accepted : (exit : List ℕ) → n ≤ length out → exit ≡ stored out 0 (recordBytes (part (allFields fieldTable) first 4) v) → Wrote (accepted (n ∷ [])) exit
         unfolding recordWritten recordOutput
         write-accepted exit long put =
             let answer : recordWritten t v out ≡ accepted (n ∷ []) = rw (known h, at .fields, ← is, not-false fit yes, ← size, le-leb n (length out) long) in

@@ -3,4 +3,6 @@ mod Table
 mod Loops
 pub mod Values
 mod Calls
+pub mod Widths
 pub mod Inverse
+mod Trials

@@ -15,13 +15,13 @@ use Rattle.numbers.specs.Numbers.{pick, le, unle, part, num}
 use Rattle.numbers.specs.Places.{stored, put}
 use Rattle.numbers.proofs.Numbers.{le-length, pow-256}
 use Rattle.numbers.proofs.Lists.{stored-nil, stored-append, length-stored, put-fits}
-use Rattle.btree_v2_record.specs.Records.{RecordField, table, recordLength, recordBytes, valuesFit}
+use Rattle.btree_v2_record.specs.Records.{RecordField, fieldTable, recordLength, recordBytes, valuesFit}
 use Rattle.btree_v2_record.specs.Steps.{allFields, fieldAt, filled}
 use Rattle.btree_v2_record.proofs.Table.{left, left-turn, left-none, left-all, meaning-small, width-small}
 
 -- The four fields from `first` on.
 abbrev four : ℕ → List RecordField
-four first = part (allFields table) first 4
+four first = part (allFields fieldTable) first 4
 
 -- `length_of`: the widths of i fields are summed.
 pub record Summed (first sum i : ℕ) : Type 0 where

@@ -10,7 +10,7 @@ use lib.ListN.{length, getD, List·getD-map}
 use borrow.Author.Tests.{ltb-true, leb-true, eqb-true, ne-eqb}
 use Rattle.numbers.specs.Numbers.{pick, part}
 use Rattle.numbers.proofs.Lists.{part-cons}
-use Rattle.btree_v2_record.specs.Records.{RecordField, field, RecordType, table, isIn, fieldsIn}
+use Rattle.btree_v2_record.specs.Records.{RecordField, field, RecordType, fieldTable, isIn, fieldsIn}
 use Rattle.btree_v2_record.specs.Steps.{allFields, fieldAt, FirstField}
 
 -- What two tests show that both hold.
@@ -29,17 +29,17 @@ every-at p [] d h e k = h
 every-at p (x ∷ xs) d h e zero = and-true (p x) (every p xs) e .0
 every-at p (x ∷ xs) d h e (suc k) = every-at p xs d h (and-true (p x) (every p xs) e .1) k
 
--- A column of the table, and what holds of every field.
-pub column-at : (f : RecordField → ℕ) (column : List ℕ) (k : ℕ) → map f (allFields table) ≡ column → getD column k (f (field 0 0)) ≡ f (fieldAt k)
-column-at f column k e = rw (← e) (List·getD-map f (allFields table) k (field 0 0))
+-- A column of the fieldTable, and what holds of every field.
+pub column-at : (f : RecordField → ℕ) (column : List ℕ) (k : ℕ) → map f (allFields fieldTable) ≡ column → getD column k (f (field 0 0)) ≡ f (fieldAt k)
+column-at f column k e = rw (← e) (List·getD-map f (allFields fieldTable) k (field 0 0))
 
 pub meaning-small : (k : ℕ) → fieldAt k .meaning < 4
 unfolding allFields every
-meaning-small k = ltb-true _ _ (every-at (λ (f : RecordField). ltb (f .meaning) 4) (allFields table) (field 0 0) refl refl k)
+meaning-small k = ltb-true _ _ (every-at (λ (f : RecordField). ltb (f .meaning) 4) (allFields fieldTable) (field 0 0) refl refl k)
 
 pub width-small : (k : ℕ) → fieldAt k .width ≤ 8
 unfolding allFields every
-width-small k = leb-true _ _ (every-at (λ (f : RecordField). leb (f .width) 8) (allFields table) (field 0 0) refl refl k)
+width-small k = leb-true _ _ (every-at (λ (f : RecordField). leb (f .width) 8) (allFields fieldTable) (field 0 0) refl refl k)
 
 -- What a test shows of the fields of every type of a table holds of those of each type that is in it.
 pub fields-pass : (p : List RecordField → Bool) (types : List RecordType) (t : ℕ) → every (λ (r : RecordType). p (r .fields)) types ≡ true
@@ -55,9 +55,9 @@ fields-pass p (r ∷ rs) t e h =
     by true is here later h = rw is here
     by false is here later h = rw is (later (rw is at h))
 
--- `first_field`: the place of the first field of a type c of the table, and of a type that is not in it.
+-- `first_field`: the place of the first field of a type c of the fieldTable, and of a type that is not in it.
 module _ (t : ℕ) where
-  pub first-of : (c first : ℕ) → t ≡ c → isIn table c ≡ ltb first 16 → fieldsIn table c ≡ part (allFields table) first 4
+  pub first-of : (c first : ℕ) → t ≡ c → isIn fieldTable c ≡ ltb first 16 → fieldsIn fieldTable c ≡ part (allFields fieldTable) first 4
       → (first < 16 → first + 4 ≤ 16) → FirstField t first
   first-of c first e known fields within = rw e (record { known = known; fields = fields; within = within })
 
@@ -70,23 +70,23 @@ module _ (t : ℕ) where
       let not9 = ne-eqb t 9 d in
       record { known = rw (not5, not6, not8, not9); fields = rw (not5, not6, not8, not9); within = λ h. absurd (omega arith) }
 
-many : length (allFields table) ≡ 16
+many : length (allFields fieldTable) ≡ 16
 unfolding allFields
 many = refl
 
 -- The fields that are left of the four from `first` on, after i of them.
 abbrev pub left : ℕ → ℕ → List RecordField
-left first i = part (allFields table) (first + i) (4 - i)
+left first i = part (allFields fieldTable) (first + i) (4 - i)
 
 module _ (first i : ℕ) where
   pub left-turn : first + 4 ≤ 16 → i < 4 → left first i ≡ fieldAt (first + i) ∷ left first (i + 1)
   left-turn fits h =
       let n : 4 - i ≡ suc (4 - (i + 1)) = omega arith in
-      let there : first + i < length (allFields table) = rw many (omega arith) in
-      rw (n, part-cons (allFields table) (first + i) (4 - (i + 1)) (field 0 0) there, add-assoc)
+      let there : first + i < length (allFields fieldTable) = rw many (omega arith) in
+      rw (n, part-cons (allFields fieldTable) (first + i) (4 - (i + 1)) (field 0 0) there, add-assoc)
 
   pub left-none : 4 ≤ i → left first i ≡ []
   left-none h = let n : 4 - i ≡ 0 = omega arith in rw n
 
-pub left-all : (first : ℕ) → left first 0 ≡ part (allFields table) first 4
+pub left-all : (first : ℕ) → left first 0 ≡ part (allFields fieldTable) first 4
 left-all first = rw add-zero

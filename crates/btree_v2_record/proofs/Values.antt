@@ -12,18 +12,18 @@ use lib.Seq.{getD-set-same, getD-set-other, getD-drop, getD-take, take-at, drop-
 use borrow.Author.Tests.{ltb-true, lt-ltb, eqb-true, eqb-false, eq-eqb, ne-eqb, not-true}
 use Rattle.numbers.specs.Numbers.{pick, le, unle}
 use Rattle.numbers.proofs.Numbers.{le-length, le-unle, unle-le, unle-lt, lt-or-le}
-use Rattle.btree_v2_record.specs.Records.{RecordField, nameHash, heapId, messageFlags, creationOrder, table, isIn, fieldsIn, recordLength, recordBytes, valueIn, valuesIn, valuesFit}
+use Rattle.btree_v2_record.specs.Records.{RecordField, nameHash, heapId, messageFlags, creationOrder, fieldTable, isIn, fieldsIn, recordLength, recordBytes, valueIn, valuesIn, valuesFit}
 use Rattle.btree_v2_record.specs.Inverse.{named, once, amongFour, eachOnce}
 use Rattle.btree_v2_record.specs.Steps.{filled}
 use Rattle.btree_v2_record.proofs.Table.{and-true, every, fields-pass}
 
 -- What fields have that name each of the four meanings once.
-pub record EachOnce (fs : List RecordField) : Type 0 where
+pub record NamesEach (fs : List RecordField) : Type 0 where
   pub noneTwice : once fs ≡ true
   pub four : amongFour fs ≡ true
   pub all : (m : ℕ) → m < 4 → named fs m ≡ true
 
-pub each-once : (fs : List RecordField) → eachOnce fs ≡ true → EachOnce fs
+pub each-once : (fs : List RecordField) → eachOnce fs ≡ true → NamesEach fs
 unfolding eachOnce
 each-once fs e =
     let halves = and-true (once fs && amongFour fs) _ e in
@@ -40,10 +40,10 @@ each-once fs e =
     by a b c d (suc (suc (suc zero))) h = d
     by a b c d (suc (suc (suc (suc m)))) h = absurd (omega arith)
 
--- The test over the whole table, and what it shows of each type that is in it.
-pub table-each-once : (t : ℕ) → isIn table t ≡ true → EachOnce (fieldsIn table t)
+-- The test over the whole fieldTable, and what it shows of each type that is in it.
+pub table-each-once : (t : ℕ) → isIn fieldTable t ≡ true → NamesEach (fieldsIn fieldTable t)
 unfolding every eachOnce once amongFour named
-table-each-once t known = each-once (fieldsIn table t) (fields-pass eachOnce table t refl known)
+table-each-once t known = each-once (fieldsIn fieldTable t) (fields-pass eachOnce fieldTable t refl known)
 
 -- The values that are put at their places are those of the fields; the others stay.
 module _ (f : RecordField) (fs : List RecordField) (b v : List ℕ) (m : ℕ) where
@@ -74,7 +74,7 @@ filled-at (f ∷ fs) b v m o s l =
     (filled-at fs (drop (f .width) b) (next f fs b v m) m (twice .1) (small .1) (rw length-set l))
 
 -- `read_fields` from four zeros: the four values.
-pub values-read : (fs : List RecordField) (b v : List ℕ) → EachOnce fs → v ≡ filled fs b (replicate 4 0)
+pub values-read : (fs : List RecordField) (b v : List ℕ) → NamesEach fs → v ≡ filled fs b (replicate 4 0)
     → getD v 0 0 ∷ getD v 1 0 ∷ getD v 2 0 ∷ getD v 3 0 ∷ [] ≡ valuesIn fs b
 unfolding valuesIn
 values-read fs b v each e = rw (at 0 (omega arith), at 1 (omega arith), at 2 (omega arith), at 3 (omega arith))

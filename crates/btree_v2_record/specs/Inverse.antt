@@ -1,5 +1,5 @@
--- Reading and writing are inverse, and what the theorems say of fields: document 02, "Four".
-use Prim.Native.Nat.{ℕ, _≤_, _<_}
+-- Document 02, "Four", as a type: reading and writing are inverse; and what its proof asks of the fields of a type. Theorems cite these.
+use Prim.Native.Nat.{ℕ, _^_, _≤_, _<_}
 use mathlib.Core.Path.{_≡_}
 use mathlib.Core.Bool.{Bool, true, false, not, _&&_, _||_}
 use mathlib.Core.List.{List, [], _∷_}
@@ -8,10 +8,19 @@ use lib.ListN.{length, getD, take}
 use Rattle.numbers.specs.Numbers.{pick}
 use Rattle.numbers.specs.Places.{over}
 use Rattle.refusal.specs.Answer.{accepted}
-use Rattle.btree_v2_record.specs.Records.{RecordField, nameHash, heapId, messageFlags, creationOrder, recordRead, recordWritten, recordOutput}
+use Rattle.btree_v2_record.specs.Records.{RecordField, nameHash, heapId, messageFlags, creationOrder, fieldTable, fieldsIn, recordLength, valuesIn, recordRead, recordWritten, recordOutput}
 
--- Of one type: what was written is read back as it was; and what was read, written again, gives the same bytes.
+-- The width of the field with a meaning; 0 where there is none.
+unfoldable pub widthIn : List RecordField → ℕ → ℕ
+widthIn [] m = 0
+widthIn (f ∷ fs) m = let later = widthIn fs m in pick (eqb m (f .meaning)) (f .width) later
+
+-- Of one type: every record of its length is read, and every four values that fit are written where there is room; what was written is read
+-- back as it was; and what was read, written again, gives the same bytes.
 pub record Inverse (t : ℕ) : Type 0 where
+  pub reads : (bytes : List ℕ) → length bytes ≡ recordLength (fieldsIn fieldTable t) → recordRead t bytes ≡ accepted (valuesIn (fieldsIn fieldTable t) bytes)
+  pub writes : (values out : List ℕ) → ((m : ℕ) → m < 4 → getD values m 0 < 256 ^ widthIn (fieldsIn fieldTable t) m)
+      → recordLength (fieldsIn fieldTable t) ≤ length out → recordWritten t values out ≡ accepted (recordLength (fieldsIn fieldTable t) ∷ [])
   pub readBack : (values out : List ℕ) (n : ℕ) → length values ≡ 4 → recordWritten t values out ≡ accepted (n ∷ [])
       → recordRead t (take n (recordOutput t values out)) ≡ accepted values
   pub writtenBack : (bytes values out : List ℕ) → ((i : ℕ) → getD bytes i 0 < 256) → recordRead t bytes ≡ accepted values → length bytes ≤ length out
@@ -36,8 +45,3 @@ amongFour (f ∷ fs) = ltb (f .meaning) 4 && amongFour fs
 unfoldable pub eachOnce : List RecordField → Bool
 eachOnce fs =
     (once fs && amongFour fs) && ((named fs nameHash && named fs heapId) && (named fs messageFlags && named fs creationOrder))
-
--- The width of the field with a meaning; 0 where there is none.
-unfoldable pub widthIn : List RecordField → ℕ → ℕ
-widthIn [] m = 0
-widthIn (f ∷ fs) m = let later = widthIn fs m in pick (eqb m (f .meaning)) (f .width) later

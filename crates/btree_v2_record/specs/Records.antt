@@ -39,8 +39,8 @@ abbrev pub recordType : ℕ → List RecordField → RecordType
 recordType t fs = record { number = t; fields = fs }
 
 -- The table of fields.
-abbrev pub table : List RecordType
-table =
+abbrev pub fieldTable : List RecordType
+fieldTable =
     recordType 5 (field nameHash 4 ∷ field heapId 7 ∷ field messageFlags 0 ∷ field creationOrder 0 ∷ [])
     ∷ recordType 6 (field creationOrder 8 ∷ field heapId 7 ∷ field nameHash 0 ∷ field messageFlags 0 ∷ [])
     ∷ recordType 8 (field heapId 8 ∷ field messageFlags 1 ∷ field creationOrder 4 ∷ field nameHash 4 ∷ [])
@@ -86,18 +86,18 @@ valuesFit (f ∷ fs) values = ltb (getD values (f .meaning) 0) (256 ^ f .width) 
 -- Reading a record: its four values.
 unfoldable pub recordRead : ℕ → List ℕ → Answer
 recordRead t bytes =
-    orElse (isIn table t) (refused 19 [])
-    (orElse (eqb (length bytes) (recordLength (fieldsIn table t))) (refused 20 [])
-    (accepted (valuesIn (fieldsIn table t) bytes)))
+    orElse (isIn fieldTable t) (refused 19 [])
+    (orElse (eqb (length bytes) (recordLength (fieldsIn fieldTable t))) (refused 20 [])
+    (accepted (valuesIn (fieldsIn fieldTable t) bytes)))
 
 -- Writing one to the front of an output: its length; and the output at exit.
 unfoldable pub recordWritten : ℕ → List ℕ → List ℕ → Answer
 recordWritten t values out =
-    let size = recordLength (fieldsIn table t) in
-    orElse (isIn table t) (refused 19 [])
-    (orElse (valuesFit (fieldsIn table t) values) (refused 20 [])
+    let size = recordLength (fieldsIn fieldTable t) in
+    orElse (isIn fieldTable t) (refused 19 [])
+    (orElse (valuesFit (fieldsIn fieldTable t) values) (refused 20 [])
     (orElse (leb size (length out)) (refused 15 (length out ∷ []))
     (accepted (size ∷ []))))
 
 unfoldable pub recordOutput : ℕ → List ℕ → List ℕ → List ℕ
-recordOutput t values out = ifAccepted (recordWritten t values out) (over (recordBytes (fieldsIn table t) values) out) out
+recordOutput t values out = ifAccepted (recordWritten t values out) (over (recordBytes (fieldsIn fieldTable t) values) out) out

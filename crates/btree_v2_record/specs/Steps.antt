@@ -5,7 +5,7 @@ use mathlib.Core.List.{List, [], _∷_, _++_}
 use lib.Dec.{ltb}
 use lib.ListN.{getD, set, take, drop}
 use Rattle.numbers.specs.Numbers.{part, unle}
-use Rattle.btree_v2_record.specs.Records.{RecordField, field, RecordType, table, isIn, fieldsIn}
+use Rattle.btree_v2_record.specs.Records.{RecordField, field, RecordType, fieldTable, isIn, fieldsIn}
 
 -- The fields of all types of a table.
 unfoldable pub allFields : List RecordType → List RecordField
@@ -14,7 +14,7 @@ allFields (r ∷ rs) = r .fields ++ allFields rs
 
 -- Field k of the table.
 abbrev pub fieldAt : ℕ → RecordField
-fieldAt k = getD (allFields table) k (field 0 0)
+fieldAt k = getD (allFields fieldTable) k (field 0 0)
 
 -- Values with the number of each field put at the place of its meaning, from the first field on.
 unfoldable pub filled : List RecordField → List ℕ → List ℕ → List ℕ
@@ -23,6 +23,6 @@ filled (f ∷ fs) bytes values = filled fs (drop (f .width) bytes) (set values (
 
 -- The place of a type's first field: that of no field where the type is not in the table.
 pub record FirstField (t first : ℕ) : Type 0 where
-  pub known : isIn table t ≡ ltb first 16
-  pub fields : fieldsIn table t ≡ part (allFields table) first 4
+  pub known : isIn fieldTable t ≡ ltb first 16
+  pub fields : fieldsIn fieldTable t ≡ part (allFields fieldTable) first 4
   pub within : first < 16 → first + 4 ≤ 16

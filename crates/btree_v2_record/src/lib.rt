@@ -8,7 +8,7 @@ ghost use lib.ListN.{length, replicate};
 ghost use Rattle.numbers.specs.Numbers.{part};
 ghost use Rattle.numbers.specs.Places.{stored};
 ghost use Rattle.refusal.specs.Answer.{putAnswerOf};
-ghost use Rattle.btree_v2_record.specs.Records.{table, recordLength, recordBytes, valuesFit, recordRead, recordWritten, recordOutput};
+ghost use Rattle.btree_v2_record.specs.Records.{fieldTable, recordLength, recordBytes, valuesFit, recordRead, recordWritten, recordOutput};
 ghost use Rattle.btree_v2_record.specs.Answers.{valuesOf, valuesAnswerOf};
 ghost use Rattle.btree_v2_record.specs.Steps.{allFields, fieldAt, filled, FirstField};
 use refusal::PutAnswer;
@@ -33,7 +33,7 @@ const MEANINGS: [usize; 16] = [0, 1, 2, 3, 3, 1, 0, 2, 1, 2, 3, 0, 1, 2, 3, 0];
 
 const WIDTHS: [usize; 16] = [4, 7, 0, 0, 8, 7, 0, 0, 8, 1, 4, 4, 8, 1, 4, 0];
 
-// The place of a type's first field in the table, 16 where it is not there.
+// The place of a type's first field in the fieldTable, 16 where it is not there.
 fn first_field(tree_type: u8) -> usize
     ensures { λ r. ⌜ FirstField «tree_type» r ⌝ }
 {
@@ -69,7 +69,7 @@ fn width_of(field: usize) -> usize
 // The length of a record with the four fields from `first` on.
 fn length_of(first: usize) -> usize
     requires { ⌜ first + 4 ≤ 16 ⌝ }
-    ensures { λ r. ⌜ r ≡ recordLength (part (allFields table) first 4) ⌝ }
+    ensures { λ r. ⌜ r ≡ recordLength (part (allFields fieldTable) first 4) ⌝ }
 {
     let mut length = 0;
     let mut i = 0;
@@ -81,9 +81,9 @@ fn length_of(first: usize) -> usize
 }
 
 // The values in a record with these fields.
-fn read_fields(first: usize, bytes: &[u8]) -> [u64; 4]
-    requires { ⌜ (first + 4 ≤ 16) × (length (now bytes) ≡ recordLength (part (allFields table) first 4)) ⌝ }
-    ensures { λ r. ⌜ r ≡ filled (part (allFields table) first 4) (now (bytes .entry)) (replicate 4 0) ⌝ }
+fn read_fields(first: usize, record: &[u8]) -> [u64; 4]
+    requires { ⌜ (first + 4 ≤ 16) × (length (now «record») ≡ recordLength (part (allFields fieldTable) first 4)) ⌝ }
+    ensures { λ r. ⌜ r ≡ filled (part (allFields fieldTable) first 4) (now («record» .entry)) (replicate 4 0) ⌝ }
 {
     let mut values = [0u64; 4];
     let mut at = 0;
@@ -91,7 +91,7 @@ fn read_fields(first: usize, bytes: &[u8]) -> [u64; 4]
     while i < 4 {
         let meaning = meaning_of(first + i);
         let width = width_of(first + i);
-        values[meaning] = numbers::read_le(bytes, at, width);
+        values[meaning] = numbers::read_le(record, at, width);
         at += width;
         i += 1;
     }
@@ -112,7 +112,7 @@ fn fits(value: u64, width: usize) -> bool
 // Whether every value is small enough for its field.
 fn all_fit(first: usize, values: &[u64; 4]) -> bool
     requires { ⌜ first + 4 ≤ 16 ⌝ }
-    ensures { λ r. ⌜ r ≡ valuesFit (part (allFields table) first 4) (now (values .entry)) ⌝ }
+    ensures { λ r. ⌜ r ≡ valuesFit (part (allFields fieldTable) first 4) (now (values .entry)) ⌝ }
 {
     let mut i = 0;
     while i < 4 {
@@ -127,8 +127,8 @@ fn all_fit(first: usize, values: &[u64; 4]) -> bool
 
 // Puts the record with these fields and values at the front of the output.
 fn put_fields(first: usize, values: &[u64; 4], output: &mut [u8])
-    requires { ⌜ (first + 4 ≤ 16) × (recordLength (part (allFields table) first 4) ≤ length (now output)) ⌝ }
-    ensures { λ _. ⌜ now (output .exit) ≡ stored (now (output .entry)) 0 (recordBytes (part (allFields table) first 4) (now (values .entry))) ⌝ }
+    requires { ⌜ (first + 4 ≤ 16) × (recordLength (part (allFields fieldTable) first 4) ≤ length (now output)) ⌝ }
+    ensures { λ _. ⌜ now (output .exit) ≡ stored (now (output .entry)) 0 (recordBytes (part (allFields fieldTable) first 4) (now (values .entry))) ⌝ }
 {
     let mut at = 0;
     let mut i = 0;
@@ -140,17 +140,17 @@ fn put_fields(first: usize, values: &[u64; 4], output: &mut [u8])
 }
 
 // The values of a record of a type.
-pub fn read_record(tree_type: u8, bytes: &[u8]) -> ValuesAnswer
-    ensures { λ r. ⌜ valuesAnswerOf r ≡ recordRead «tree_type» (now (bytes .entry)) ⌝ }
+pub fn read_record(tree_type: u8, record: &[u8]) -> ValuesAnswer
+    ensures { λ r. ⌜ valuesAnswerOf r ≡ recordRead «tree_type» (now («record» .entry)) ⌝ }
 {
     let first = first_field(tree_type);
     if 16 <= first {
         return ValuesAnswer::Refused(Refusal::UnknownRecordType);
     }
-    if bytes.len() != length_of(first) {
+    if record.len() != length_of(first) {
         return ValuesAnswer::Refused(Refusal::RecordTypeMismatch);
     }
-    let values = read_fields(first, bytes);
+    let values = read_fields(first, record);
     ValuesAnswer::Read(RecordValues {
         name_hash: values[0],
         heap_id: values[1],

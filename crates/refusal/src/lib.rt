@@ -42,9 +42,9 @@ pub enum Refusal {
     InvalidKeyField,
     // 18: the base is beyond the file's length
     BaseBeyondFile,
-    // 19: the tree type is not one whose records have a meaning here
+    // 19: the tree type is not 5, 6, 8 or 9
     UnknownRecordType,
-    // 20: a record has not the length of its type, or a value is too large for its field
+    // 20: a record's length is not its type's, or a value is too large for its field
     RecordTypeMismatch,
 }
 
