@@ -17,7 +17,7 @@ use Rattle.numbers.proofs.Numbers.{le-length, pow-256}
 use Rattle.numbers.proofs.Lists.{stored-nil, stored-append, length-stored, put-fits}
 use Rattle.btree_v2_record.specs.Records.{RecordField, fieldTable, recordLength, recordBytes, valuesFit}
 use Rattle.btree_v2_record.specs.Steps.{allFields, fieldAt, filled}
-use Rattle.btree_v2_record.proofs.Table.{left, left-turn, left-none, left-all, meaning-small, width-small}
+use Rattle.btree_v2_record.proofs.Table.{left, left-turn, left-none, left-all}
 
 -- The four fields from `first` on.
 abbrev four : ℕ → List RecordField

@@ -29,17 +29,22 @@ every-at p [] d h e k = h
 every-at p (x ∷ xs) d h e zero = and-true (p x) (every p xs) e .0
 every-at p (x ∷ xs) d h e (suc k) = every-at p xs d h (and-true (p x) (every p xs) e .1) k
 
--- A column of the fieldTable, and what holds of every field.
-pub column-at : (f : RecordField → ℕ) (column : List ℕ) (k : ℕ) → map f (allFields fieldTable) ≡ column → getD column k (f (field 0 0)) ≡ f (fieldAt k)
+-- A column of the table, and what holds of every field.
+column-at : (f : RecordField → ℕ) (column : List ℕ) (k : ℕ) → map f (allFields fieldTable) ≡ column → getD column k (f (field 0 0)) ≡ f (fieldAt k)
 column-at f column k e = rw (← e) (List·getD-map f (allFields fieldTable) k (field 0 0))
 
-pub meaning-small : (k : ℕ) → fieldAt k .meaning < 4
-unfolding allFields every
-meaning-small k = ltb-true _ _ (every-at (λ (f : RecordField). ltb (f .meaning) 4) (allFields fieldTable) (field 0 0) refl refl k)
+module _ (column : List ℕ) (k : ℕ) where
+  pub meaning-at : map (λ (f : RecordField). f .meaning) (allFields fieldTable) ≡ column → (getD column k 0 ≡ fieldAt k .meaning) × (getD column k 0 < 4)
+  unfolding allFields every
+  meaning-at e =
+      let is : getD column k 0 ≡ fieldAt k .meaning = column-at (λ (f : RecordField). f .meaning) column k e in
+      (is, rw is (ltb-true _ _ (every-at (λ (f : RecordField). ltb (f .meaning) 4) (allFields fieldTable) (field 0 0) refl refl k)))
 
-pub width-small : (k : ℕ) → fieldAt k .width ≤ 8
-unfolding allFields every
-width-small k = leb-true _ _ (every-at (λ (f : RecordField). leb (f .width) 8) (allFields fieldTable) (field 0 0) refl refl k)
+  pub width-at : map (λ (f : RecordField). f .width) (allFields fieldTable) ≡ column → (getD column k 0 ≡ fieldAt k .width) × (getD column k 0 ≤ 8)
+  unfolding allFields every
+  width-at e =
+      let is : getD column k 0 ≡ fieldAt k .width = column-at (λ (f : RecordField). f .width) column k e in
+      (is, rw is (leb-true _ _ (every-at (λ (f : RecordField). leb (f .width) 8) (allFields fieldTable) (field 0 0) refl refl k)))
 
 -- What a test shows of the fields of every type of a table holds of those of each type that is in it.
 pub fields-pass : (p : List RecordField → Bool) (types : List RecordType) (t : ℕ) → every (λ (r : RecordType). p (r .fields)) types ≡ true
@@ -55,7 +60,7 @@ fields-pass p (r ∷ rs) t e h =
     by true is here later h = rw is here
     by false is here later h = rw is (later (rw is at h))
 
--- `first_field`: the place of the first field of a type c of the fieldTable, and of a type that is not in it.
+-- `first_field`: the place of the first field of a type c of the table, and of a type that is not in it.
 module _ (t : ℕ) where
   pub first-of : (c first : ℕ) → t ≡ c → isIn fieldTable c ≡ ltb first 16 → fieldsIn fieldTable c ≡ part (allFields fieldTable) first 4
       → (first < 16 → first + 4 ≤ 16) → FirstField t first

@@ -40,7 +40,7 @@ each-once fs e =
     by a b c d (suc (suc (suc zero))) h = d
     by a b c d (suc (suc (suc (suc m)))) h = absurd (omega arith)
 
--- The test over the whole fieldTable, and what it shows of each type that is in it.
+-- The test over the whole table, and what it shows of each type that is in it.
 pub table-each-once : (t : ℕ) → isIn fieldTable t ≡ true → NamesEach (fieldsIn fieldTable t)
 unfolding every eachOnce once amongFour named
 table-each-once t known = each-once (fieldsIn fieldTable t) (fields-pass eachOnce fieldTable t refl known)

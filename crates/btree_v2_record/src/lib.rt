@@ -29,11 +29,11 @@ pub enum ValuesAnswer {
 
 // The table: four fields for each of the types 5, 6, 8 and 9, in the record's own order, and behind them those that the type lacks. A field's
 // meaning is the place of its value: 0 name hash, 1 heap id, 2 message flags, 3 creation order.
-const MEANINGS: [usize; 16] = [0, 1, 2, 3, 3, 1, 0, 2, 1, 2, 3, 0, 1, 2, 3, 0];
+const MEANINGS: [u8; 16] = [0, 1, 2, 3, 3, 1, 0, 2, 1, 2, 3, 0, 1, 2, 3, 0];
 
-const WIDTHS: [usize; 16] = [4, 7, 0, 0, 8, 7, 0, 0, 8, 1, 4, 4, 8, 1, 4, 0];
+const WIDTHS: [u8; 16] = [4, 7, 0, 0, 8, 7, 0, 0, 8, 1, 4, 4, 8, 1, 4, 0];
 
-// The place of a type's first field in the fieldTable, 16 where it is not there.
+// The place of a type's first field in the table, 16 where it is not there.
 fn first_field(tree_type: u8) -> usize
     ensures { λ r. ⌜ FirstField «tree_type» r ⌝ }
 {
@@ -56,14 +56,14 @@ fn meaning_of(field: usize) -> usize
     requires { ⌜ field < 16 ⌝ }
     ensures { λ r. ⌜ (r ≡ fieldAt field .meaning) × (r < 4) ⌝ }
 {
-    MEANINGS[field]
+    MEANINGS[field] as usize
 }
 
 fn width_of(field: usize) -> usize
     requires { ⌜ field < 16 ⌝ }
     ensures { λ r. ⌜ (r ≡ fieldAt field .width) × (r ≤ 8) ⌝ }
 {
-    WIDTHS[field]
+    WIDTHS[field] as usize
 }
 
 // The length of a record with the four fields from `first` on.

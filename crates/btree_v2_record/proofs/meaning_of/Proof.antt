@@ -1,8 +1,8 @@
 -- `meaning_of`: a column of the table.
 use mathlib.Core.Path.{refl}
-use Rattle.btree_v2_record.specs.Records.{RecordField}
+use native.Mathlib.Omega.{arith}
 use Rattle.btree_v2_record.specs.Steps.{allFields}
-use Rattle.btree_v2_record.proofs.Table.{column-at, meaning-small}
+use Rattle.btree_v2_record.proofs.Table.{meaning-at}
 use borrow.Author.Needs.{needs}
 use Rattle.btree_v2_record.proofs.meaning_of.Statement.{statement}
 use Rattle.btree_v2_record.proofs.meaning_of.Tie as tie
@@ -12,5 +12,6 @@ unfolding allFields
 meaning-of-spec =
     tie.close
     (tie.spec
-    (λ c. search needs) (λ c. search needs)
-    (λ c. (column-at (λ (f : RecordField). f .meaning) _ (c .args .field) refl, rw (column-at (λ (f : RecordField). f .meaning) _ (c .args .field) refl) (meaning-small (c .args .field)))))
+    (λ c. search needs)
+    (λ c. omega (arith, meaning-at _ (c .args .field) refl .1))
+    (λ c. meaning-at _ (c .args .field) refl))

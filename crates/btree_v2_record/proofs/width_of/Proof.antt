@@ -1,8 +1,8 @@
 -- `width_of`: a column of the table.
 use mathlib.Core.Path.{refl}
-use Rattle.btree_v2_record.specs.Records.{RecordField}
+use native.Mathlib.Omega.{arith}
 use Rattle.btree_v2_record.specs.Steps.{allFields}
-use Rattle.btree_v2_record.proofs.Table.{column-at, width-small}
+use Rattle.btree_v2_record.proofs.Table.{width-at}
 use borrow.Author.Needs.{needs}
 use Rattle.btree_v2_record.proofs.width_of.Statement.{statement}
 use Rattle.btree_v2_record.proofs.width_of.Tie as tie
@@ -12,5 +12,6 @@ unfolding allFields
 width-of-spec =
     tie.close
     (tie.spec
-    (λ c. search needs) (λ c. search needs)
-    (λ c. (column-at (λ (f : RecordField). f .width) _ (c .args .field) refl, rw (column-at (λ (f : RecordField). f .width) _ (c .args .field) refl) (width-small (c .args .field)))))
+    (λ c. search needs)
+    (λ c. omega (arith, width-at _ (c .args .field) refl .1))
+    (λ c. width-at _ (c .args .field) refl))
