@@ -11,7 +11,7 @@ use borrow.Author.Tests.{ltb-true, leb-true, eqb-true, ne-eqb}
 use Rattle.numbers.specs.Numbers.{pick, part}
 use Rattle.numbers.proofs.Lists.{part-cons}
 use Rattle.btree_v2_record.specs.Records.{RecordField, field, RecordType, fieldTable, isIn, fieldsIn}
-use Rattle.btree_v2_record.specs.Steps.{allFields, fieldAt, FirstField}
+use Rattle.btree_v2_record.specs.Steps.{allFields, fieldAt, Meanings, Widths, FirstField}
 
 -- What two tests show that both hold.
 pub and-true : (a b : Bool) → (a && b) ≡ true → (a ≡ true) × (b ≡ true)
@@ -34,13 +34,13 @@ column-at : (f : RecordField → ℕ) (column : List ℕ) (k : ℕ) → map f (a
 column-at f column k e = rw (← e) (List·getD-map f (allFields fieldTable) k (field 0 0))
 
 module _ (column : List ℕ) (k : ℕ) where
-  pub meaning-at : map (λ (f : RecordField). f .meaning) (allFields fieldTable) ≡ column → (getD column k 0 ≡ fieldAt k .meaning) × (getD column k 0 < 4)
+  pub meaning-at : Meanings column → (getD column k 0 ≡ fieldAt k .meaning) × (getD column k 0 < 4)
   unfolding allFields every
   meaning-at e =
       let is : getD column k 0 ≡ fieldAt k .meaning = column-at (λ (f : RecordField). f .meaning) column k e in
       (is, rw is (ltb-true _ _ (every-at (λ (f : RecordField). ltb (f .meaning) 4) (allFields fieldTable) (field 0 0) refl refl k)))
 
-  pub width-at : map (λ (f : RecordField). f .width) (allFields fieldTable) ≡ column → (getD column k 0 ≡ fieldAt k .width) × (getD column k 0 ≤ 8)
+  pub width-at : Widths column → (getD column k 0 ≡ fieldAt k .width) × (getD column k 0 ≤ 8)
   unfolding allFields every
   width-at e =
       let is : getD column k 0 ≡ fieldAt k .width = column-at (λ (f : RecordField). f .width) column k e in

@@ -1,7 +1,7 @@
 -- The table as the code goes through it: its fields one after another, and the values that are read so far.
 use Prim.Native.Nat.{ℕ, _+_, _≤_, _<_}
 use mathlib.Core.Path.{_≡_}
-use mathlib.Core.List.{List, [], _∷_, _++_}
+use mathlib.Core.List.{List, [], _∷_, _++_, map}
 use lib.Dec.{ltb}
 use lib.ListN.{getD, set, take, drop}
 use Rattle.numbers.specs.Numbers.{part, unle}
@@ -15,6 +15,13 @@ allFields (r ∷ rs) = r .fields ++ allFields rs
 -- Field k of the table.
 abbrev pub fieldAt : ℕ → RecordField
 fieldAt k = getD (allFields fieldTable) k (field 0 0)
+
+-- The columns of the table.
+abbrev pub Meanings : List ℕ → Type 0
+Meanings column = map (λ (f : RecordField). f .meaning) (allFields fieldTable) ≡ column
+
+abbrev pub Widths : List ℕ → Type 0
+Widths column = map (λ (f : RecordField). f .width) (allFields fieldTable) ≡ column
 
 -- Values with the number of each field put at the place of its meaning, from the first field on.
 unfoldable pub filled : List RecordField → List ℕ → List ℕ → List ℕ

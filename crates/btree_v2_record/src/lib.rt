@@ -10,7 +10,8 @@ ghost use Rattle.numbers.specs.Places.{stored};
 ghost use Rattle.refusal.specs.Answer.{putAnswerOf};
 ghost use Rattle.btree_v2_record.specs.Records.{fieldTable, recordLength, recordBytes, valuesFit, recordRead, recordWritten, recordOutput};
 ghost use Rattle.btree_v2_record.specs.Answers.{valuesOf, valuesAnswerOf};
-ghost use Rattle.btree_v2_record.specs.Steps.{allFields, fieldAt, filled, FirstField};
+ghost use Rattle.btree_v2_record.specs.Steps.{allFields, fieldAt, Meanings, Widths, filled, FirstField};
+use field::Field;
 use refusal::PutAnswer;
 use refusal::Refusal;
 
@@ -52,46 +53,51 @@ fn first_field(tree_type: u8) -> usize
     16
 }
 
-fn meaning_of(field: usize) -> usize
-    requires { ⌜ field < 16 ⌝ }
+// The meaning of a field, and its width. The columns are lent, since a `const` array is made anew wherever it is named.
+fn meaning_of(meanings: &[u8; 16], field: usize) -> usize
+    requires { ⌜ Meanings (now meanings) × (field < 16) ⌝ }
     ensures { λ r. ⌜ (r ≡ fieldAt field .meaning) × (r < 4) ⌝ }
 {
-    MEANINGS[field] as usize
+    meanings[field] as usize
 }
 
-fn width_of(field: usize) -> usize
-    requires { ⌜ field < 16 ⌝ }
+fn width_of(widths: &[u8; 16], field: usize) -> usize
+    requires { ⌜ Widths (now widths) × (field < 16) ⌝ }
     ensures { λ r. ⌜ (r ≡ fieldAt field .width) × (r ≤ 8) ⌝ }
 {
-    WIDTHS[field] as usize
+    widths[field] as usize
 }
 
 // The length of a record with the four fields from `first` on.
-fn length_of(first: usize) -> usize
-    requires { ⌜ first + 4 ≤ 16 ⌝ }
+fn length_of(widths: &[u8; 16], first: usize) -> usize
+    requires { ⌜ Widths (now widths) × (first + 4 ≤ 16) ⌝ }
     ensures { λ r. ⌜ r ≡ recordLength (part (allFields fieldTable) first 4) ⌝ }
 {
     let mut length = 0;
     let mut i = 0;
     while i < 4 {
-        length += width_of(first + i);
+        length += width_of(widths, first + i);
         i += 1;
     }
     length
 }
 
 // The values in a record with these fields.
-fn read_fields(first: usize, record: &[u8]) -> [u64; 4]
-    requires { ⌜ (first + 4 ≤ 16) × (length (now «record») ≡ recordLength (part (allFields fieldTable) first 4)) ⌝ }
+fn read_fields(meanings: &[u8; 16], widths: &[u8; 16], first: usize, record: &[u8]) -> [u64; 4]
+    requires { ⌜ Meanings (now meanings) × Widths (now widths) × (first + 4 ≤ 16) × (length (now «record») ≡ recordLength (part (allFields fieldTable) first 4)) ⌝ }
     ensures { λ r. ⌜ r ≡ filled (part (allFields fieldTable) first 4) (now («record» .entry)) (replicate 4 0) ⌝ }
 {
     let mut values = [0u64; 4];
     let mut at = 0;
     let mut i = 0;
     while i < 4 {
-        let meaning = meaning_of(first + i);
-        let width = width_of(first + i);
-        values[meaning] = numbers::read_le(record, at, width);
+        let meaning = meaning_of(meanings, first + i);
+        let width = width_of(widths, first + i);
+        let field = Field {
+            start: at as u64,
+            width: width as u64,
+        };
+        values[meaning] = field::read_number(record, field, 0);
         at += width;
         i += 1;
     }
@@ -110,14 +116,14 @@ fn fits(value: u64, width: usize) -> bool
 }
 
 // Whether every value is small enough for its field.
-fn all_fit(first: usize, values: &[u64; 4]) -> bool
-    requires { ⌜ first + 4 ≤ 16 ⌝ }
+fn all_fit(meanings: &[u8; 16], widths: &[u8; 16], first: usize, values: &[u64; 4]) -> bool
+    requires { ⌜ Meanings (now meanings) × Widths (now widths) × (first + 4 ≤ 16) ⌝ }
     ensures { λ r. ⌜ r ≡ valuesFit (part (allFields fieldTable) first 4) (now (values .entry)) ⌝ }
 {
     let mut i = 0;
     while i < 4 {
-        let meaning = meaning_of(first + i);
-        if !fits(values[meaning], width_of(first + i)) {
+        let meaning = meaning_of(meanings, first + i);
+        if !fits(values[meaning], width_of(widths, first + i)) {
             return false;
         }
         i += 1;
@@ -126,15 +132,21 @@ fn all_fit(first: usize, values: &[u64; 4]) -> bool
 }
 
 // Puts the record with these fields and values at the front of the output.
-fn put_fields(first: usize, values: &[u64; 4], output: &mut [u8])
-    requires { ⌜ (first + 4 ≤ 16) × (recordLength (part (allFields fieldTable) first 4) ≤ length (now output)) ⌝ }
+fn put_fields(
+    meanings: &[u8; 16],
+    widths: &[u8; 16],
+    first: usize,
+    values: &[u64; 4],
+    output: &mut [u8],
+)
+    requires { ⌜ Meanings (now meanings) × Widths (now widths) × (first + 4 ≤ 16) × (recordLength (part (allFields fieldTable) first 4) ≤ length (now output)) ⌝ }
     ensures { λ _. ⌜ now (output .exit) ≡ stored (now (output .entry)) 0 (recordBytes (part (allFields fieldTable) first 4) (now (values .entry))) ⌝ }
 {
     let mut at = 0;
     let mut i = 0;
     while i < 4 {
-        let meaning = meaning_of(first + i);
-        at = numbers::write_le(output, at, values[meaning], width_of(first + i));
+        let meaning = meaning_of(meanings, first + i);
+        at = numbers::write_le(output, at, values[meaning], width_of(widths, first + i));
         i += 1;
     }
 }
@@ -147,10 +159,12 @@ pub fn read_record(tree_type: u8, record: &[u8]) -> ValuesAnswer
     if 16 <= first {
         return ValuesAnswer::Refused(Refusal::UnknownRecordType);
     }
-    if record.len() != length_of(first) {
+    let widths = WIDTHS;
+    if record.len() != length_of(&widths, first) {
         return ValuesAnswer::Refused(Refusal::RecordTypeMismatch);
     }
-    let values = read_fields(first, record);
+    let meanings = MEANINGS;
+    let values = read_fields(&meanings, &widths, first, record);
     ValuesAnswer::Read(RecordValues {
         name_hash: values[0],
         heap_id: values[1],
@@ -174,13 +188,15 @@ pub fn write_record(tree_type: u8, values: RecordValues, output: &mut [u8]) -> P
         values.message_flags,
         values.creation_order,
     ];
-    if !all_fit(first, &list) {
+    let meanings = MEANINGS;
+    let widths = WIDTHS;
+    if !all_fit(&meanings, &widths, first, &list) {
         return PutAnswer::Refused(Refusal::RecordTypeMismatch);
     }
-    let length = length_of(first);
+    let length = length_of(&widths, first);
     if output.len() < length {
         return PutAnswer::Refused(Refusal::OutputTooShort(output.len() as u64));
     }
-    put_fields(first, &list, output);
+    put_fields(&meanings, &widths, first, &list, output);
     PutAnswer::Put(length as u64)
 }

@@ -31,19 +31,34 @@ pub fn read_number(data: &[u8], field: Field, place: u64) -> u64
     ensures { λ r. ⌜ r ≡ num (now («data» .entry)) (place + field .start) (min (field .width) 8) ⌝ }
 {
     let at = numbers::saturating_add(place, field.start);
-    low_bytes(read_u64(numbers::part(data, at, 8)), field.width)
+    low_bytes(read_u64(data, at), field.width)
 }
 
-// The number in the first 8 bytes, or in as many as there are.
-fn read_u64(data: &[u8]) -> u64
-    ensures { λ r. ⌜ r ≡ num (now («data» .entry)) 0 8 ⌝ }
+// The number in the 8 bytes at `at`, or in as many as there are.
+fn read_u64(data: &[u8], at: u64) -> u64
+    ensures { λ r. ⌜ r ≡ num (now («data» .entry)) at 8 ⌝ }
 {
-    if data.len() < 8 {
-        let mut eight = [0u8; 8];
-        numbers::put_bytes(&mut eight, 0, data);
-        return join(&eight);
+    let len = data.len() as u64;
+    if len < 8 {
+        return read_padded(data, at);
     }
-    join(data)
+    if len <= at {
+        return 0;
+    }
+    let last = len - 8;
+    if last < at {
+        return join(&data[last as usize..]) >> (8 * (at - last));
+    }
+    join(&data[at as usize..])
+}
+
+// The same in data of any length: zeros are put behind the bytes that are there.
+fn read_padded(data: &[u8], at: u64) -> u64
+    ensures { λ r. ⌜ r ≡ num (now («data» .entry)) at 8 ⌝ }
+{
+    let mut eight = [0u8; 8];
+    numbers::put_bytes(&mut eight, 0, numbers::part(data, at, 8));
+    join(&eight)
 }
 
 // The number in the first 8 bytes: a sum, which becomes one load.

@@ -6,10 +6,10 @@ use Rattle.btree_v2_record.proofs.all_fit.Statement.{statement}
 use Rattle.btree_v2_record.proofs.all_fit.Tie as tie
 
 abbrev Inv-loop : tie.InvT-loop
-Inv-loop first values i₀ i = Fitting first values i
+Inv-loop meanings widths first values i₀ i = Fitting first values i
 
 abbrev μ-loop : tie.MeasureT-loop
-μ-loop first values i₀ i = 4 - i
+μ-loop meanings widths first values i₀ i = 4 - i
 
 pub all-fit-spec : {M : Type 1} → statement M
 all-fit-spec =

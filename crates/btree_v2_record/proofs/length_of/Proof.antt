@@ -6,10 +6,10 @@ use Rattle.btree_v2_record.proofs.length_of.Statement.{statement}
 use Rattle.btree_v2_record.proofs.length_of.Tie as tie
 
 abbrev Inv-loop : tie.InvT-loop
-Inv-loop first length₀ i₀ length i = Summed first length i
+Inv-loop widths first length₀ i₀ length i = Summed first length i
 
 abbrev μ-loop : tie.MeasureT-loop
-μ-loop first length₀ i₀ length i = 4 - i
+μ-loop widths first length₀ i₀ length i = 4 - i
 
 pub length-of-spec : {M : Type 1} → statement M
 length-of-spec =

@@ -6,10 +6,10 @@ use Rattle.btree_v2_record.proofs.read_fields.Statement.{statement}
 use Rattle.btree_v2_record.proofs.read_fields.Tie as tie
 
 abbrev Inv-loop : tie.InvT-loop
-Inv-loop first bytes values₀ at₀ i₀ values at i = Filling first bytes values at i
+Inv-loop meanings widths first bytes values₀ at₀ i₀ values at i = Filling first bytes values at i
 
 abbrev μ-loop : tie.MeasureT-loop
-μ-loop first bytes values₀ at₀ i₀ values at i = 4 - i
+μ-loop meanings widths first bytes values₀ at₀ i₀ values at i = 4 - i
 
 pub read-fields-spec : {M : Type 1} → statement M
 read-fields-spec =
