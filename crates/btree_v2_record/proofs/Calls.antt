@@ -6,13 +6,14 @@ use Prim.Native.Nat.{ℕ, _+_, _≤_, _<_}
 use native.Mathlib.Omega.{arith}
 use lib.Dec.{leb, ltb, eqb}
 use lib.ListN.{length, getD, replicate}
-use borrow.Author.Tests.{lt-ltb, le-ltb, eq-eqb, ne-eqb, le-leb, lt-leb, not-true, not-false}
+use borrow.Author.Tests.{lt-ltb, le-ltb, eq-eqb, ne-eqb, le-leb, lt-leb, leb-true, not-true, not-false}
 use Rattle.numbers.specs.Numbers.{part}
 use Rattle.numbers.specs.Places.{stored, over}
 use Rattle.numbers.proofs.Copying.{over-stored}
 use Rattle.refusal.specs.Answer.{Answer, accepted, refused, orElse, ifAccepted}
-use Rattle.btree_v2_record.specs.Records.{fieldTable, isIn, fieldsIn, recordLength, recordBytes, valuesFit, recordRead, recordWritten, recordOutput}
+use Rattle.btree_v2_record.specs.Records.{RecordField, fieldTable, isIn, fieldsIn, recordLength, recordBytes, valuesFit, recordRead, recordWritten, recordOutput}
 use Rattle.btree_v2_record.specs.Steps.{allFields, filled, FirstField}
+use Rattle.btree_v2_record.proofs.Table.{every, fields-pass}
 use Rattle.btree_v2_record.proofs.Values.{table-each-once, values-read}
 
 module _ (t first : ℕ) (at : FirstField t first) where
@@ -25,6 +26,12 @@ module _ (t first : ℕ) (at : FirstField t first) where
   -- Four fields from there on are within the table.
   pub four-within : first < 16 → first + 4 ≤ 16
   four-within h = at .within h
+
+  -- Every type has 8 bytes or more.
+  pub long-enough : (b : List ℕ) (n : ℕ) → first < 16 → length b ≡ n → n ≡ recordLength (part (allFields fieldTable) first 4) → 8 ≤ length b
+  unfolding every recordLength
+  long-enough b n h long size =
+      rw (long, size, ← at .fields) (leb-true _ _ (fields-pass (λ (fs : List RecordField). leb 8 (recordLength fs)) fieldTable t refl (known h)))
 
   -- `read_record`.
   module _ (b : List ℕ) where

@@ -1,4 +1,5 @@
 -- The laws of records by their meaning.
+mod Numbers
 mod Table
 mod Loops
 pub mod Values

@@ -146,14 +146,21 @@ pub filling-start : (first : ℕ) (b : List ℕ) → length b ≡ recordLength (
 filling-start first b h = record { few = zero≤; long = refl; place = rw (left-all, zero-add) (sym h); leads = rw left-all }
 
 module _ (first : ℕ) (b v : List ℕ) (at i : ℕ) (inv : Filling first b v at i) where
-  pub filling-turn : (m w x : ℕ) → first + 4 ≤ 16 → i < 4 → (m ≡ fieldAt (first + i) .meaning) × (m < 4)
-      → (w ≡ fieldAt (first + i) .width) × (w ≤ 8) → x ≡ num b (0 + at) (min w 8) → Filling first b (set v m x) (at + w) (i + 1)
-  unfolding num
-  filling-turn m w x fits h meaning width is =
-      let wide : recordLength (left first i) ≡ w + recordLength (left first (i + 1)) = rw (left-turn first i fits h, length-more, width .0) in
-      let e : x ≡ unle (take w (drop at b)) = is ∙ rw (min-eq-left (width .1), zero-add) in
-      let step = rw (left-turn first i fits h, filled-more, ← meaning .0, ← width .0, ← e, drop-drop) at (inv .leads) in
-      record { few = omega arith; long = rw length-set (inv .long); place = omega (arith, inv .place); leads = step }
+  module _ (w : ℕ) (fits : first + 4 ≤ 16) (h : i < 4) (width : (w ≡ fieldAt (first + i) .width) × (w ≤ 8)) where
+    wide : recordLength (left first i) ≡ w + recordLength (left first (i + 1))
+    wide = rw (left-turn first i fits h, length-more, width .0)
+
+    -- The field is within the record.
+    pub filling-room : at + w ≤ length b
+    filling-room = omega (arith, inv .place, wide)
+
+    pub filling-turn : (m x : ℕ) → (m ≡ fieldAt (first + i) .meaning) × (m < 4) → x ≡ num b (at + w - w) w → Filling first b (set v m x) (at + w) (i + 1)
+    unfolding num
+    filling-turn m x meaning is =
+        let place : at + w - w ≡ at = omega arith in
+        let e : x ≡ unle (take w (drop at b)) = is ∙ rw place in
+        let step = rw (left-turn first i fits h, filled-more, ← meaning .0, ← width .0, ← e, drop-drop) at (inv .leads) in
+        record { few = omega arith; long = rw length-set (inv .long); place = omega (arith, inv .place, wide); leads = step }
 
   pub filling-end : 4 ≤ i → v ≡ filled (four first) b (replicate 4 0)
   unfolding filled

@@ -2,16 +2,15 @@
 // are a table; each loop goes over the fields of one type.
 
 ghost use mathlib.Core.Path.{_≡_};
-ghost use Prim.Native.Nat.{_+_, _^_, _≤_, _<_};
+ghost use Prim.Native.Nat.{_+_, _-_, _^_, _≤_, _<_};
 ghost use lib.Dec.{ltb};
 ghost use lib.ListN.{length, replicate};
-ghost use Rattle.numbers.specs.Numbers.{part};
+ghost use Rattle.numbers.specs.Numbers.{part, num};
 ghost use Rattle.numbers.specs.Places.{stored};
 ghost use Rattle.refusal.specs.Answer.{putAnswerOf};
 ghost use Rattle.btree_v2_record.specs.Records.{fieldTable, recordLength, recordBytes, valuesFit, recordRead, recordWritten, recordOutput};
 ghost use Rattle.btree_v2_record.specs.Answers.{valuesOf, valuesAnswerOf};
 ghost use Rattle.btree_v2_record.specs.Steps.{allFields, fieldAt, Meanings, Widths, filled, FirstField};
-use field::Field;
 use refusal::PutAnswer;
 use refusal::Refusal;
 
@@ -82,23 +81,33 @@ fn length_of(widths: &[u8; 16], first: usize) -> usize
     length
 }
 
+// The number in the `width` bytes before `end`: the last of the 8 bytes that end there, or, where fewer do, some of the first 8.
+fn number_before(record: &[u8], end: usize, width: usize) -> u64
+    requires { ⌜ (8 ≤ length (now «record»)) × (end ≤ length (now «record»)) × (width ≤ end) × (width ≤ 8) ⌝ }
+    ensures { λ r. ⌜ r ≡ num (now («record» .entry)) (end - width) width ⌝ }
+{
+    if width == 0 {
+        return 0;
+    }
+    if 8 <= end {
+        return field::read_eight(&record[end - 8..]) >> (8 * (8 - width));
+    }
+    (field::read_eight(record) << (8 * (8 - end))) >> (8 * (8 - width))
+}
+
 // The values in a record with these fields.
 fn read_fields(meanings: &[u8; 16], widths: &[u8; 16], first: usize, record: &[u8]) -> [u64; 4]
-    requires { ⌜ Meanings (now meanings) × Widths (now widths) × (first + 4 ≤ 16) × (length (now «record») ≡ recordLength (part (allFields fieldTable) first 4)) ⌝ }
+    requires { ⌜ Meanings (now meanings) × Widths (now widths) × (first + 4 ≤ 16) × (length (now «record») ≡ recordLength (part (allFields fieldTable) first 4)) × (8 ≤ length (now «record»)) ⌝ }
     ensures { λ r. ⌜ r ≡ filled (part (allFields fieldTable) first 4) (now («record» .entry)) (replicate 4 0) ⌝ }
 {
     let mut values = [0u64; 4];
-    let mut at = 0;
+    let mut end = 0;
     let mut i = 0;
     while i < 4 {
         let meaning = meaning_of(meanings, first + i);
         let width = width_of(widths, first + i);
-        let field = Field {
-            start: at as u64,
-            width: width as u64,
-        };
-        values[meaning] = field::read_number(record, field, 0);
-        at += width;
+        end += width;
+        values[meaning] = number_before(record, end, width);
         i += 1;
     }
     values

@@ -1,3 +1,3 @@
 -- The laws of a number field.
-mod Reading
+pub mod Reading
 pub mod Fields

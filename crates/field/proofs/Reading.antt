@@ -3,15 +3,16 @@ use mathlib.Core.Path.{_≡_, refl, sym, _∙_}
 use mathlib.Core.Logic.{⊎-elim}
 use mathlib.Core.List.{List, [], _∷_, _++_}
 use Prim.Native.Nat.{ℕ, zero, suc, _+_, _-_, _*_, _/_, _%_, _^_, _≤_, _<_, min}
-use native.Mathlib.Nat.{add-zero, zero-add, mul-zero, one-le-pow, div-eq-of-lt, add-mul-div-left, le-of-lt, min-eq-left, min-eq-right, mod-eq-of-lt, mod-one, add-mul-mod-self-left}
+use native.Mathlib.Nat.{add-zero, mul-zero, le-of-lt, min-eq-left, min-eq-right, mod-eq-of-lt, mod-one, add-mul-mod-self-left}
 use native.Mathlib.Omega.{arith}
-use lib.Dec.{lit<}
+use lib.Dec.{leb}
 use lib.Pow.{shl-shr, field}
-use lib.ListN.{length, getD, drop, replicate, length-append, length-take, length-drop}
+use lib.ListN.{length, getD, drop, replicate, length-append, length-drop}
 use lib.Seq.{take-all, getD-drop}
-use Rattle.numbers.specs.Numbers.{unle, part, num, saturated}
+use borrow.Author.Tests.{le-leb, lt-leb}
+use Rattle.numbers.specs.Numbers.{pick, unle, part, num, saturated}
 use Rattle.numbers.specs.Places.{put}
-use Rattle.numbers.proofs.Lists.{part-cons, part-past, part-rest, part-part, put-fits, stored-is}
+use Rattle.numbers.proofs.Lists.{part-cons, part-rest, part-part, put-fits, stored-is}
 use Rattle.numbers.proofs.Numbers.{lt-or-le, unle-append, num-add, num-lt, pow-256}
 use Rattle.numbers.proofs.Copying.{num-saturated}
 use Rattle.field.specs.declared.Field.{Field}
@@ -34,6 +35,14 @@ num-8 l a b c d e f g h there a0 b1 c2 d3 e4 f5 g6 h7 =
     )
     (omega arith)
 
+-- `read_eight`: too few bytes, or 8.
+module _ (l : List ℕ) where
+  pub eight-short : length l < 8 → 0 ≡ pick (leb 8 (length l)) (num l 0 8) 0
+  eight-short h = rw (lt-leb 8 (length l) h)
+
+  pub eight-there : (x : ℕ) → 8 ≤ length l → x ≡ num l 0 8 → x ≡ pick (leb 8 (length l)) (num l 0 8) 0
+  eight-there x h e = rw (le-leb 8 (length l) h) e
+
 -- `read_u64`: fewer than 8 bytes, with zeros behind them.
 unle-none : (l : List ℕ) → ((i : ℕ) → getD l i 0 ≡ 0) → unle l ≡ 0
 unfolding unle
@@ -45,43 +54,14 @@ zeros-none zero i = refl
 zeros-none (suc k) zero = refl
 zeros-none (suc k) (suc i) = zeros-none k i
 
-pub num-padded : (l : List ℕ) (at : ℕ) (d : List ℕ) → d ≡ part l at 8 → (e : List ℕ) → e ≡ put (replicate 8 0) 0 d → (r : ℕ) → r ≡ num e 0 8 → r ≡ num l at 8
+pub num-padded : (d : List ℕ) → length d < 8 → (e : List ℕ) → e ≡ put (replicate 8 0) 0 d → (r : ℕ) → r ≡ num e 0 8 → r ≡ num d 0 8
 unfolding num
-num-padded l at d is e padded r read =
-    let few : length d ≤ 8 = rw is (simp length-take (omega arith)) in
+num-padded d short e padded r is =
     let zeros : List ℕ = drop (0 + length d) (replicate 8 0) in
     let whole : e ≡ d ++ zeros = padded ∙ put-fits (replicate 8 0) 0 d (omega arith) ∙ stored-is (replicate 8 0) 0 d in
     let all : length (d ++ zeros) ≤ 8 = simp (length-append, length-drop) (omega arith) in
     let none : unle zeros ≡ 0 = unle-none zeros (λ i. rw getD-drop (zeros-none 8 (0 + length d + i))) in
-    rw (read, whole, take-all 8 (d ++ zeros) all, unle-append, none, mul-zero, add-zero, is)
-
--- `read_u64`: no byte, the last of the last 8 bytes, or 8 bytes.
-module _ (l : List ℕ) (at : ℕ) where
-  pub num-none : length l ≤ at → 0 ≡ num l at 8
-  unfolding num unle
-  num-none h = rw (part-past l at 8 h)
-
-  -- From a place on there are 8 bytes.
-  num-from : (p x : ℕ) → p + 8 ≤ length l → x ≡ num (part l p (length l - p)) 0 8 → x ≡ num l p 8
-  unfolding num
-  num-from p x h read = rw (read, part-part l p (length l - p) 0 8 (omega arith), add-zero)
-
-  pub num-last : (x last : ℕ) → 8 ≤ length l → at < length l → last ≡ length l - 8 → last < at → ((i : ℕ) → getD l i 0 < 256)
-      → x ≡ num (part l last (length l - last)) 0 8 → x / 2 ^ (8 * (at - last)) ≡ num l at 8
-  unfolding num
-  num-last x last long there is after bytes read =
-      let w = at - last in
-      let v = length l - at in
-      let all : w + v ≡ 8 = omega arith in
-      let place : last + w ≡ at = omega arith in
-      let whole : x ≡ num l last (w + v) = rw all (num-from last x (omega arith) read) in
-      let split : num l last (w + v) ≡ num l last w + 256 ^ w * num l at v = rw place at (num-add l last w v (omega arith)) in
-      let low : num l last w / 256 ^ w ≡ 0 = div-eq-of-lt (num-lt l last w bytes) in
-      let rest : num l at v ≡ num l at 8 = rw (part-rest l at v (omega arith), part-rest l at 8 (omega arith)) in
-      rw (← pow-256, whole, split, add-mul-div-left (num l last w) (num l at v) (one-le-pow w 256 (lit< tt)), low, zero-add) rest
-
-  pub num-there : (x last : ℕ) → 8 ≤ length l → last ≡ length l - 8 → at ≤ last → x ≡ num (part l at (length l - at)) 0 8 → x ≡ num l at 8
-  num-there x last long is h read = num-from at x (omega arith) read
+    rw (is, whole, take-all 8 (d ++ zeros) all, unle-append, none, mul-zero, add-zero, take-all 8 d (le-of-lt short))
 
 -- `low_bytes`: all of x, nothing, or x without the bits above.
 module _ (x w : ℕ) where
@@ -97,7 +77,7 @@ module _ (x w : ℕ) where
       rw (min-eq-left (le-of-lt h), pow-256) (rw (all, shl-shr) at (field (x * 2 ^ (64 - 8 * w)) (8 * w) (64 - 8 * w)))
 
 -- The number in the first m of m + v bytes.
-num-low : (l : List ℕ) (p m v : ℕ) → ((i : ℕ) → getD l i 0 < 256) → num l p (m + v) % 256 ^ m ≡ num l p m
+pub num-low : (l : List ℕ) (p m v : ℕ) → ((i : ℕ) → getD l i 0 < 256) → num l p (m + v) % 256 ^ m ≡ num l p m
 unfolding num
 num-low l p m v bytes =
     ⊎-elim
@@ -113,9 +93,12 @@ num-low l p m v bytes =
 
 -- `read_number`: the low bytes of those at the place, which is saturated.
 pub number-read : (d : List ℕ) (f : Field) (p at : ℕ) → at ≡ saturated (p + f .start) → length d < 2 ^ 64 → ((i : ℕ) → getD d i 0 < 256)
-    → (x r : ℕ) → x ≡ num d at 8 → r ≡ x % 256 ^ min (f .width) 8 → r ≡ num d (p + f .start) (min (f .width) 8)
-number-read d f p at e small bytes x r whole low =
+    → (rest : List ℕ) → rest ≡ part d at 8 → (x r : ℕ) → x ≡ num rest 0 8 → r ≡ x % 256 ^ min (f .width) 8
+    → r ≡ num d (p + f .start) (min (f .width) 8)
+unfolding num
+number-read d f p at e small bytes rest is x r whole low =
     let w = min (f .width) 8 in
     let all : w + (8 - w) ≡ 8 = omega arith in
+    let there : num rest 0 8 ≡ num d at 8 = rw (is, part-part d at 8 0 8 (omega arith), add-zero) in
     let some : num d at w ≡ num d (p + f .start) w = rw e (num-saturated d (p + f .start) w small) in
-    rw (low, whole) (rw all at (num-low d at w (8 - w) bytes) ∙ some)
+    rw (low, whole, there) (rw all at (num-low d at w (8 - w) bytes) ∙ some)

@@ -2,8 +2,9 @@
 
 ghost use mathlib.Core.Path.{_≡_};
 ghost use Prim.Native.Nat.{_+_, _%_, _^_, _≤_, _<_, min};
+ghost use lib.Dec.{leb};
 ghost use lib.ListN.{length, getD};
-ghost use Rattle.numbers.specs.Numbers.{num};
+ghost use Rattle.numbers.specs.Numbers.{pick, num};
 ghost use Rattle.field.specs.Field.{numberField};
 
 // Where the field begins in a record, and its bytes, low byte first.
@@ -31,34 +32,29 @@ pub fn read_number(data: &[u8], field: Field, place: u64) -> u64
     ensures { λ r. ⌜ r ≡ num (now («data» .entry)) (place + field .start) (min (field .width) 8) ⌝ }
 {
     let at = numbers::saturating_add(place, field.start);
-    low_bytes(read_u64(data, at), field.width)
+    low_bytes(read_u64(numbers::part(data, at, 8)), field.width)
 }
 
-// The number in the 8 bytes at `at`, or in as many as there are.
-fn read_u64(data: &[u8], at: u64) -> u64
-    ensures { λ r. ⌜ r ≡ num (now («data» .entry)) at 8 ⌝ }
+// The number in the first 8 bytes, or in as many as there are.
+fn read_u64(data: &[u8]) -> u64
+    ensures { λ r. ⌜ r ≡ num (now («data» .entry)) 0 8 ⌝ }
 {
-    let len = data.len() as u64;
-    if len < 8 {
-        return read_padded(data, at);
+    if data.len() < 8 {
+        let mut eight = [0u8; 8];
+        numbers::put_bytes(&mut eight, 0, data);
+        return join(&eight);
     }
-    if len <= at {
+    join(data)
+}
+
+// The number in the first 8 bytes; 0 where there are fewer.
+pub fn read_eight(data: &[u8]) -> u64
+    ensures { λ r. ⌜ r ≡ pick (leb 8 (length (now («data» .entry)))) (num (now («data» .entry)) 0 8) 0 ⌝ }
+{
+    if data.len() < 8 {
         return 0;
     }
-    let last = len - 8;
-    if last < at {
-        return join(&data[last as usize..]) >> (8 * (at - last));
-    }
-    join(&data[at as usize..])
-}
-
-// The same in data of any length: zeros are put behind the bytes that are there.
-fn read_padded(data: &[u8], at: u64) -> u64
-    ensures { λ r. ⌜ r ≡ num (now («data» .entry)) at 8 ⌝ }
-{
-    let mut eight = [0u8; 8];
-    numbers::put_bytes(&mut eight, 0, numbers::part(data, at, 8));
-    join(&eight)
+    join(data)
 }
 
 // The number in the first 8 bytes: a sum, which becomes one load.

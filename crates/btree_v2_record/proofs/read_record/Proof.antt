@@ -1,6 +1,7 @@
 -- `read_record`: 19, 20, or the values.
-use Rattle.btree_v2_record.proofs.Calls.{four-within, read-unknown, read-mismatch, read-accepted}
+use Rattle.btree_v2_record.proofs.Calls.{four-within, long-enough, read-unknown, read-mismatch, read-accepted}
 use Rattle.btree_v2_record.specs.Steps.{allFields}
+use mathlib.Core.Path.{refl, _∙_}
 use borrow.Author.Needs.{needs}
 use Rattle.btree_v2_record.proofs.read_record.Statement.{statement}
 use Rattle.btree_v2_record.proofs.read_record.Tie as tie
@@ -14,6 +15,11 @@ read-record-spec =
     (λ c. search read-unknown)
     (λ c κs. search (needs, four-within))
     (λ c. search read-mismatch)
-    (λ c κs. search (needs, four-within))
+    (λ c κs.
+    let length = c .before .before in
+    let known = length .before .before .before in
+    let at = known .before .first-field .ensures in
+    let same = length .if2 .left ∙ length .before .length-of .ensures in
+    (refl, refl, four-within _ _ at (known .if1 .left), same, long-enough _ _ at _ _ (known .if1 .left) (length .if2 .left) (length .before .length-of .ensures)))
     (λ c. search needs) (λ c. search needs) (λ c. search needs) (λ c. search needs)
     (λ c. search read-accepted))

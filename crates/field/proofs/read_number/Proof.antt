@@ -9,8 +9,9 @@ pub read-number-spec : {M : Type 1} → statement M
 read-number-spec =
     tie.close
     (tie.spec
-    (λ c κs. search needs) (λ c κs. search needs) (λ c κs. search needs)
+    (λ c κs. search needs) (λ c κs. search needs) (λ c κs. search needs) (λ c κs. search needs)
     (λ c.
-    let at = c .before .before in
+    let at = c .before .before .before in
     let bytes = at .before .shared-slice-known in
-    number-read _ _ _ _ (at .saturating-add .ensures) (omega arith) (λ i. omega (arith, bytes .given i)) _ _ (c .before .read-u64 .ensures) (c .low-bytes .ensures)))
+    number-read _ _ _ _ (at .saturating-add .ensures) (omega arith) (λ i. omega (arith, bytes .given i))
+    _ (c .before .before .part .ensures) _ _ (c .before .read-u64 .ensures) (c .low-bytes .ensures)))

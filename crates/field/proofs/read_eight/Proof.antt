@@ -1,0 +1,8 @@
+-- `read_eight`: too few bytes, or 8.
+use Rattle.field.proofs.Reading.{eight-short, eight-there}
+use borrow.Author.Needs.{needs}
+use Rattle.field.proofs.read_eight.Statement.{statement}
+use Rattle.field.proofs.read_eight.Tie as tie
+
+pub read-eight-spec : {M : Type 1} → statement M
+read-eight-spec = tie.close (tie.spec (λ c. search eight-short) (λ c κs. search needs) (λ c. search eight-there))
