@@ -28,10 +28,10 @@ module _ (t first : ℕ) (at : FirstField t first) where
   four-within h = at .within h
 
   -- Every type has 8 bytes or more.
-  pub long-enough : (b : List ℕ) (n : ℕ) → first < 16 → length b ≡ n → n ≡ recordLength (part (allFields fieldTable) first 4) → 8 ≤ length b
+  pub long-enough : (n : ℕ) → first < 16 → n ≡ recordLength (part (allFields fieldTable) first 4) → 8 ≤ n
   unfolding every recordLength
-  long-enough b n h long size =
-      rw (long, size, ← at .fields) (leb-true _ _ (fields-pass (λ (fs : List RecordField). leb 8 (recordLength fs)) fieldTable t refl (known h)))
+  long-enough n h size =
+      rw (size, ← at .fields) (leb-true _ _ (fields-pass (λ (fs : List RecordField). leb 8 (recordLength fs)) fieldTable t refl (known h)))
 
   -- `read_record`.
   module _ (b : List ℕ) where
