@@ -12,6 +12,8 @@ use Rattle.numbers.specs.Places.{stored, over}
 use Rattle.numbers.proofs.Copying.{over-stored}
 use Rattle.refusal.specs.Answer.{Answer, accepted, refused, orElse, ifAccepted}
 use Rattle.btree_v2_record.specs.Records.{RecordField, fieldTable, isIn, fieldsIn, recordLength, recordBytes, valuesFit, recordRead, recordWritten, recordOutput}
+use Rattle.btree_v2_record.specs.declared.RecordValues.{RecordValues}
+use Rattle.btree_v2_record.specs.Answers.{valuesOf}
 use Rattle.btree_v2_record.specs.Steps.{allFields, filled, FirstField}
 use Rattle.btree_v2_record.proofs.Table.{every, fields-pass}
 use Rattle.btree_v2_record.proofs.Values.{table-each-once, values-read}
@@ -44,11 +46,11 @@ module _ (t first : ℕ) (at : FirstField t first) where
       unfolding recordRead
       read-mismatch other = rw (known h, at .fields, ← size, ne-eqb (length b) n other)
 
-      pub read-accepted : (v : List ℕ) → length b ≡ n → v ≡ filled (part (allFields fieldTable) first 4) b (replicate 4 0)
-          → accepted (getD v 0 0 ∷ getD v 1 0 ∷ getD v 2 0 ∷ getD v 3 0 ∷ []) ≡ recordRead t b
+      pub read-accepted : (v : RecordValues) → length b ≡ n → valuesOf v ≡ filled (part (allFields fieldTable) first 4) b (replicate 4 0)
+          → accepted (valuesOf v) ≡ recordRead t b
       unfolding recordRead
       read-accepted v long is =
-          let values = values-read (fieldsIn fieldTable t) b v (table-each-once t (known h)) (rw (at .fields) is) in
+          let values = values-read (fieldsIn fieldTable t) b (valuesOf v) (table-each-once t (known h)) (rw (at .fields) is) in
           let same : length b ≡ recordLength (fieldsIn fieldTable t) = rw (at .fields) (long ∙ size) in
           rw (known h, eq-eqb _ _ same, ← values)
 

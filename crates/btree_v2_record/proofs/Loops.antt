@@ -16,6 +16,8 @@ use Rattle.numbers.specs.Places.{stored, put}
 use Rattle.numbers.proofs.Numbers.{le-length, pow-256}
 use Rattle.numbers.proofs.Lists.{stored-nil, stored-append, length-stored, put-fits}
 use Rattle.btree_v2_record.specs.Records.{RecordField, fieldTable, recordLength, recordBytes, valuesFit}
+use Rattle.btree_v2_record.specs.declared.RecordValues.{RecordValues}
+use Rattle.btree_v2_record.specs.Answers.{valuesOf}
 use Rattle.btree_v2_record.specs.Steps.{allFields, fieldAt, filled}
 use Rattle.btree_v2_record.proofs.Table.{left, left-turn, left-none, left-all}
 
@@ -130,6 +132,18 @@ module _ (first : ℕ) (v o d : List ℕ) (at i : ℕ) (inv : Putting first v o 
   unfolding recordBytes
   putting-end h = rw (left-none first i h, stored-nil) at (inv .leads)
 
+-- `with`: the value at one place.
+with-set : (m x a b c d : ℕ) → m < 4 → pick (eqb m 0) x a ∷ pick (eqb m 1) x b ∷ pick (eqb m 2) x c ∷ pick (eqb m 3) x d ∷ [] ≡ set (a ∷ b ∷ c ∷ d ∷ []) m x
+with-set zero x a b c d h = refl
+with-set (suc zero) x a b c d h = refl
+with-set (suc (suc zero)) x a b c d h = refl
+with-set (suc (suc (suc zero))) x a b c d h = refl
+with-set (suc (suc (suc (suc m)))) x a b c d h = absurd (omega arith)
+
+pub with-is : (v : RecordValues) (m x : ℕ) {p q r s : ℕ} → m < 4 → p ≡ pick (eqb m 0) x (v .«name_hash») → q ≡ pick (eqb m 1) x (v .«heap_id»)
+    → r ≡ pick (eqb m 2) x (v .«message_flags») → s ≡ pick (eqb m 3) x (v .«creation_order») → p ∷ q ∷ r ∷ s ∷ [] ≡ set (valuesOf v) m x
+with-is v m x h ep eq er es = rw (ep, eq, er, es) (with-set m x _ _ _ _ h)
+
 -- `read_fields`: the numbers of i fields stand at their places.
 pub record Filling (first : ℕ) (b v : List ℕ) (at i : ℕ) : Type 0 where
   pub few : i ≤ 4
@@ -154,13 +168,14 @@ module _ (first : ℕ) (b v : List ℕ) (at i : ℕ) (inv : Filling first b v at
     pub filling-room : at + w ≤ length b
     filling-room = omega (arith, inv .place, wide)
 
-    pub filling-turn : (m x : ℕ) → (m ≡ fieldAt (first + i) .meaning) × (m < 4) → x ≡ num b (at + w - w) w → Filling first b (set v m x) (at + w) (i + 1)
+    pub filling-turn : (m x : ℕ) (u : List ℕ) → (m ≡ fieldAt (first + i) .meaning) × (m < 4) → x ≡ num b (at + w - w) w → u ≡ set v m x
+        → Filling first b u (at + w) (i + 1)
     unfolding num
-    filling-turn m x meaning is =
+    filling-turn m x u meaning is put =
         let place : at + w - w ≡ at = omega arith in
         let e : x ≡ unle (take w (drop at b)) = is ∙ rw place in
         let step = rw (left-turn first i fits h, filled-more, ← meaning .0, ← width .0, ← e, drop-drop) at (inv .leads) in
-        record { few = omega arith; long = rw length-set (inv .long); place = omega (arith, inv .place, wide); leads = step }
+        record { few = omega arith; long = rw (put, length-set) (inv .long); place = omega (arith, inv .place, wide); leads = rw put step }
 
   pub filling-end : 4 ≤ i → v ≡ filled (four first) b (replicate 4 0)
   unfolding filled

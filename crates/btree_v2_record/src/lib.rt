@@ -4,8 +4,8 @@
 ghost use mathlib.Core.Path.{_≡_};
 ghost use Prim.Native.Nat.{_+_, _-_, _^_, _≤_, _<_};
 ghost use lib.Dec.{ltb};
-ghost use lib.ListN.{length, replicate};
-ghost use Rattle.numbers.specs.Numbers.{part, num};
+ghost use lib.ListN.{length, replicate, set};
+ghost use Rattle.numbers.specs.Numbers.{pick, part, num};
 ghost use Rattle.numbers.specs.Places.{stored};
 ghost use Rattle.refusal.specs.Answer.{putAnswerOf};
 ghost use Rattle.btree_v2_record.specs.Records.{fieldTable, recordLength, recordBytes, valuesFit, recordRead, recordWritten, recordOutput};
@@ -95,19 +95,46 @@ fn number_before(record: &[u8], end: usize, width: usize) -> u64
     (field::read_eight(record) << (8 * (8 - end))) >> (8 * (8 - width))
 }
 
-// The values in a record with these fields.
-fn read_fields(meanings: &[u8; 16], widths: &[u8; 16], first: usize, record: &[u8]) -> [u64; 4]
-    requires { ⌜ Meanings (now meanings) × Widths (now widths) × (first + 4 ≤ 16) × (length (now «record») ≡ recordLength (part (allFields fieldTable) first 4)) × (8 ≤ length (now «record»)) ⌝ }
-    ensures { λ r. ⌜ r ≡ filled (part (allFields fieldTable) first 4) (now («record» .entry)) (replicate 4 0) ⌝ }
+// a where t holds, else b.
+fn one_of(t: bool, a: u64, b: u64) -> u64
+    ensures { λ r. ⌜ r ≡ pick t a b ⌝ }
 {
-    let mut values = [0u64; 4];
+    if t { a } else { b }
+}
+
+impl RecordValues {
+    // These values, with x for the one of this meaning.
+    fn with(self, meaning: usize, x: u64) -> RecordValues
+        requires { ⌜ meaning < 4 ⌝ }
+        ensures { λ r. ⌜ valuesOf r ≡ set (valuesOf self) meaning x ⌝ }
+    {
+        RecordValues {
+            name_hash: one_of(meaning == 0, x, self.name_hash),
+            heap_id: one_of(meaning == 1, x, self.heap_id),
+            message_flags: one_of(meaning == 2, x, self.message_flags),
+            creation_order: one_of(meaning == 3, x, self.creation_order),
+        }
+    }
+}
+
+// The values in a record with these fields.
+fn read_fields(meanings: &[u8; 16], widths: &[u8; 16], first: usize, record: &[u8]) -> RecordValues
+    requires { ⌜ Meanings (now meanings) × Widths (now widths) × (first + 4 ≤ 16) × (length (now «record») ≡ recordLength (part (allFields fieldTable) first 4)) × (8 ≤ length (now «record»)) ⌝ }
+    ensures { λ r. ⌜ valuesOf r ≡ filled (part (allFields fieldTable) first 4) (now («record» .entry)) (replicate 4 0) ⌝ }
+{
+    let mut values = RecordValues {
+        name_hash: 0,
+        heap_id: 0,
+        message_flags: 0,
+        creation_order: 0,
+    };
     let mut end = 0;
     let mut i = 0;
     while i < 4 {
         let meaning = meaning_of(meanings, first + i);
         let width = width_of(widths, first + i);
         end += width;
-        values[meaning] = number_before(record, end, width);
+        values = values.with(meaning, number_before(record, end, width));
         i += 1;
     }
     values
@@ -173,13 +200,7 @@ pub fn read_record(tree_type: u8, record: &[u8]) -> ValuesAnswer
         return ValuesAnswer::Refused(Refusal::RecordTypeMismatch);
     }
     let meanings = MEANINGS;
-    let values = read_fields(&meanings, &widths, first, record);
-    ValuesAnswer::Read(RecordValues {
-        name_hash: values[0],
-        heap_id: values[1],
-        message_flags: values[2],
-        creation_order: values[3],
-    })
+    ValuesAnswer::Read(read_fields(&meanings, &widths, first, record))
 }
 
 // A record of a type with these values, put at the front of the output.

@@ -21,5 +21,4 @@ read-record-spec =
     let at = known .before .first-field .ensures in
     let same = length .if2 .left ∙ length .before .length-of .ensures in
     (refl, refl, four-within _ _ at (known .if1 .left), same, long-enough _ _ at _ (known .if1 .left) same))
-    (λ c. search needs) (λ c. search needs) (λ c. search needs) (λ c. search needs)
     (λ c. search read-accepted))
