@@ -93,14 +93,10 @@ pub length-refused : {p : PutAnswer} (cause : Refusal) {t : List ℕ} → p ≡ 
     → t ≡ cells 3 (putAnswerOf p)
 length-refused cause e code = rw e code
 
--- A record's values, or its refusal.
+-- A record's values.
 pub values-put : {p : ValuesAnswer} {v : RecordValues} → p ≡ read.Read v → 0 ∷ valuesOf v ≡ cells 5 (valuesAnswerOf p)
 unfolding cells
 values-put e = rw e
-
-pub values-refused : {p : ValuesAnswer} (cause : Refusal) {n x y : ℕ} → p ≡ read.Refused cause → n ∷ x ∷ y ∷ [] ≡ cells 3 (refusalOf cause)
-    → n ∷ x ∷ y ∷ 0 ∷ 0 ∷ [] ≡ cells 5 (valuesAnswerOf p)
-values-refused cause e code = rw e (code-more cause 2 code)
 
 -- What was collected: number and values, and the counts.
 pub collected-put : (r : Collected) {n x y : ℕ} → n ∷ x ∷ y ∷ [] ≡ cells 3 (verdictOf (r .verdict))

@@ -148,10 +148,7 @@ pub fn put_values(answer: &mut [u64; 5], read: ValuesAnswer)
                 values.creation_order,
             ];
         }
-        ValuesAnswer::Refused(cause) => {
-            let code = cause.code();
-            *answer = [code.number, code.first, code.second, 0, 0];
-        }
+        ValuesAnswer::Refused(cause) => put_refusal(answer, cause),
     }
 }
 

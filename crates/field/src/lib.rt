@@ -51,10 +51,10 @@ fn read_u64(data: &[u8]) -> u64
 pub fn read_eight(data: &[u8]) -> u64
     ensures { λ r. ⌜ r ≡ pick (leb 8 (length (now («data» .entry)))) (num (now («data» .entry)) 0 8) 0 ⌝ }
 {
-    if data.len() < 8 {
-        return 0;
+    if 8 <= data.len() {
+        return join(data);
     }
-    join(data)
+    0
 }
 
 // The number in the first 8 bytes: a sum, which becomes one load.
