@@ -20,7 +20,12 @@ all-fit-spec =
     (λ c. fitting-start (c .args .first) (c .args .values .now))
     (λ c. search needs) (λ c κs. search needs) (λ c. search needs) (λ c. search needs) (λ c. search needs)
     (λ c κs. search needs) (λ c κs. search needs)
-    (λ c. search fitting-not)
+    (λ c.
+    let width = c .before .before in
+    let meaning = width .before .before in
+    let loop = meaning .before .before in
+    fitting-not _ _ _ (loop .loop .inv) _ _ _ (loop .before .pre .2) (meaning .before .loop-test .taken) (meaning .meaning-of .ensures) (width .width-of .ensures)
+    (c .before .fits2 .ensures) (c .if1 .taken))
     (λ c. search needs) (λ c. search needs)
     (λ c. search fitting-turn)
     (λ c. search fitting-end))

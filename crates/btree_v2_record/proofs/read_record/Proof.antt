@@ -12,9 +12,11 @@ read-record-spec =
     tie.close
     (tie.spec
     (λ c κs. search needs)
-    (λ c. search read-unknown)
-    (λ c κs. search (needs, four-within))
-    (λ c. search read-mismatch)
+    (λ c. read-unknown _ _ (c .before .first-field .ensures) _ (c .if1 .taken))
+    (λ c κs. (refl, four-within _ _ (c .before .before .first-field .ensures) (c .before .if1 .left)))
+    (λ c.
+    let known = c .before .before .before in
+    read-mismatch _ _ (known .before .first-field .ensures) _ _ (known .if1 .left) (c .before .length-of .ensures) (c .if2 .taken))
     (λ c κs.
     let length = c .before .before in
     let known = length .before .before .before in
