@@ -1,22 +1,11 @@
 // The stored looks at a leaf, good and damaged, run through `btree_v2_leaf_view::copy_leaf_record`; each answer is counted once.
 ghost use mathlib.Core.Path.{_≡_};
 ghost use Prim.Native.Nat.{_+_, _≤_, _<_};
-ghost use lib.ListN.{length};
 use crate::look_answers::LOOK_BYTES;
 use crate::look_answers::LOOK_ROWS;
 use crate::rows;
 use crate::rows::MARK;
 use crate::tally::Tally;
-use refusal::PutAnswer;
-
-// The three numbers of the answer.
-fn numbers(copied: PutAnswer) -> [u64; 3]
-    ensures { λ r. ⌜ 3 ≡ length r ⌝ }
-{
-    let mut numbers = [0; 3];
-    answers::put_length(&mut numbers, copied);
-    numbers
-}
 
 // Whether the look of a row, in this file, has its three numbers and leaves the bytes that are due in the output.
 fn leaves(list: &[u64; 350], row: usize, file: &[u8], output: &mut [u8], due: &[u8]) -> bool
@@ -34,7 +23,7 @@ fn leaves(list: &[u64; 350], row: usize, file: &[u8], output: &mut [u8], due: &[
         list[at + 5],
         output,
     );
-    let found = numbers(copied);
+    let found = rows::of_put(copied);
     if !rows::stand_at(list, at + 7, &found) {
         return false;
     }

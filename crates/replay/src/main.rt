@@ -16,6 +16,10 @@ mod look_answers;
 mod look_replay;
 mod plan_answers;
 mod plan_replay;
+mod record_read_answers;
+mod record_read_replay;
+mod record_write_answers;
+mod record_write_replay;
 mod rows;
 mod tally;
 
@@ -30,4 +34,6 @@ fn main() {
     collect_replay::ends().print(b"collect, ends of a leaf");
     find_replay::stored().print(b"find, stored answers");
     look_replay::stored().print(b"look, stored answers");
+    record_read_replay::stored().print(b"record read, stored answers");
+    record_write_replay::stored().print(b"record write, stored answers");
 }

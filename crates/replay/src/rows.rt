@@ -6,6 +6,7 @@ ghost use lib.ListN.{length, getD};
 use btree_v2_header::BTreeV2Header;
 use node_info::Geometry;
 use plan::PlanAnswer;
+use refusal::PutAnswer;
 
 // Every byte of a lent output before the call.
 pub(crate) const MARK: u8 = 238;
@@ -106,5 +107,14 @@ pub(crate) fn of_plan(answer: PlanAnswer) -> [u64; 5]
 {
     let mut numbers = [0; 5];
     answers::put_plan(&mut numbers, answer);
+    numbers
+}
+
+// The three numbers of the answer of a call that puts bytes out.
+pub(crate) fn of_put(answer: PutAnswer) -> [u64; 3]
+    ensures { λ r. ⌜ 3 ≡ length r ⌝ }
+{
+    let mut numbers = [0; 3];
+    answers::put_length(&mut numbers, answer);
     numbers
 }

@@ -1,0 +1,25 @@
+-- The loop of `stored`: `row` answers are counted, and `at` lies in the stored bytes.
+use mathlib.Core.Path.{_≡_}
+use Prim.Native.Nat.{_+_, _-_, _≤_}
+use lib.ListN.{length}
+use borrow.Author.Needs.{needs}
+use Rattle.replay.proofs.record_read_replay.stored.Statement.{statement}
+use Rattle.replay.proofs.record_read_replay.stored.Tie as tie
+
+abbrev Inv-loop : tie.InvT-loop
+Inv-loop list bytes tally₀ at₀ row₀ tally at row =
+    (row ≤ 39) × (tally .agreed + tally .differed ≡ row) × (at ≤ 527) × (273 ≡ length list) × (527 ≡ length bytes)
+
+abbrev μ-loop : tie.MeasureT-loop
+μ-loop list bytes tally₀ at₀ row₀ tally at row = 39 - row
+
+pub stored-spec : {M : Type 1} → statement M
+stored-spec =
+    tie.close
+    (tie.spec
+    Inv-loop
+    μ-loop
+    (λ c κs. search needs) (λ c. search needs) (λ c. search needs) (λ c. search needs) (λ c. search needs)
+    (λ c. search needs) (λ c κs. search needs) (λ c. search needs) (λ c. search needs) (λ c. search needs)
+    (λ c κs. search needs) (λ c κs. search needs) (λ c. search needs) (λ c. search needs) (λ c. search needs)
+    (λ c. search needs))
