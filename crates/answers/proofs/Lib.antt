@@ -1,3 +1,2 @@
 -- What stands in the caller's array.
 pub mod Putting
-mod Table

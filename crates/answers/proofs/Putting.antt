@@ -36,31 +36,28 @@ use Rattle.btree_v2_find.specs.declared.Place.the-variants.{Nowhere, At}
 use Rattle.btree_v2_find.specs.Find.{placeCells}
 use Rattle.btree_v2_find.specs.Answers.{placeOf, foundCells}
 
+-- A refusal in five places.
+pub in-five : (cause : Refusal) {n x y : ℕ} → n ∷ x ∷ y ∷ [] ≡ cells 3 (refusalOf cause) → n ∷ x ∷ y ∷ 0 ∷ 0 ∷ [] ≡ cells 5 (refusalOf cause)
+in-five cause code = code-more cause 2 code
+
 -- The plan's figures, or its refusal.
 pub plan-put : {p : PlanAnswer} {q : BTreeV2Plan} → p ≡ plan.Planned q
     → 0 ∷ q .depth ∷ q .nodes ∷ q .leaves ∷ q .«image_size» ∷ [] ≡ cells 5 (planAnswerOf p)
 unfolding cells
 plan-put e = rw e
 
-pub plan-refused : {p : PlanAnswer} (cause : Refusal) {n x y : ℕ} → p ≡ plan.Refused cause → n ∷ x ∷ y ∷ [] ≡ cells 3 (refusalOf cause)
-    → n ∷ x ∷ y ∷ 0 ∷ 0 ∷ [] ≡ cells 5 (planAnswerOf p)
-plan-refused cause e code = rw e (code-more cause 2 code)
+pub plan-refused : {p : PlanAnswer} (cause : Refusal) {t : List ℕ} → p ≡ plan.Refused cause → t ≡ cells 5 (refusalOf cause) → t ≡ cells 5 (planAnswerOf p)
+plan-refused cause e code = rw e code
 
 -- The header's fields, or its refusal, over the front of an answer; and the base.
 module _ (a : List ℕ) (p : HeaderAnswer) where
-  pub header-short : length a < 8 → a ≡ put a 0 (cells 8 (headerAnswerOf p))
-  header-short h = sym (put-not a 0 (cells 8 (headerAnswerOf p)) (rw length-cells (omega arith)))
-
-  over-front : {o n : List ℕ} → 8 ≤ length a → o ≡ stored a 0 n → n ≡ cells 8 (headerAnswerOf p) → o ≡ put a 0 (cells 8 (headerAnswerOf p))
-  over-front h is e = is ∙ ap (stored a 0) e ∙ sym (put-fits a 0 (cells 8 (headerAnswerOf p)) (rw length-cells (omega arith)))
-
-  pub header-put : (h : BTreeV2Header) {o : List ℕ} → 8 ≤ length a → p ≡ header.Parsed h → o ≡ stored a 0 (0 ∷ headerFigures h) → o ≡ put a 0 (cells 8 (headerAnswerOf p))
+  pub header-put : (h : BTreeV2Header) {o : List ℕ} → p ≡ header.Parsed h → o ≡ put a 0 (0 ∷ headerFigures h) → o ≡ put a 0 (cells 8 (headerAnswerOf p))
   unfolding cells
-  header-put h l e is = over-front l is (rw e)
+  header-put h e is = rw e is
 
-  pub header-refused : (cause : Refusal) {n x y : ℕ} {o : List ℕ} → 8 ≤ length a → p ≡ header.Refused cause → n ∷ x ∷ y ∷ [] ≡ cells 3 (refusalOf cause)
-      → o ≡ stored a 0 (n ∷ x ∷ y ∷ 0 ∷ 0 ∷ 0 ∷ 0 ∷ 0 ∷ []) → o ≡ put a 0 (cells 8 (headerAnswerOf p))
-  header-refused cause l e code is = over-front l is (rw e (code-more cause 5 code))
+  pub header-refused : (cause : Refusal) {n x y : ℕ} {o : List ℕ} → p ≡ header.Refused cause → n ∷ x ∷ y ∷ [] ≡ cells 3 (refusalOf cause)
+      → o ≡ put a 0 (n ∷ x ∷ y ∷ 0 ∷ 0 ∷ 0 ∷ 0 ∷ 0 ∷ []) → o ≡ put a 0 (cells 8 (headerAnswerOf p))
+  header-refused cause e code is = is ∙ ap (put a 0) (rw e (code-more cause 5 code))
 
 pub header-length : (a : List ℕ) (p : HeaderAnswer) {o : List ℕ} → o ≡ put a 0 (cells 8 (headerAnswerOf p)) → length o ≡ length a
 unfolding put
@@ -93,10 +90,13 @@ pub length-refused : {p : PutAnswer} (cause : Refusal) {t : List ℕ} → p ≡ 
     → t ≡ cells 3 (putAnswerOf p)
 length-refused cause e code = rw e code
 
--- A record's values.
+-- A record's values, or its refusal.
 pub values-put : {p : ValuesAnswer} {v : RecordValues} → p ≡ read.Read v → 0 ∷ valuesOf v ≡ cells 5 (valuesAnswerOf p)
 unfolding cells
 values-put e = rw e
+
+pub values-refused : {p : ValuesAnswer} (cause : Refusal) {t : List ℕ} → p ≡ read.Refused cause → t ≡ cells 5 (refusalOf cause) → t ≡ cells 5 (valuesAnswerOf p)
+values-refused cause e code = rw e code
 
 -- What was collected: number and values, and the counts.
 pub collected-put : (r : Collected) {n x y : ℕ} → n ∷ x ∷ y ∷ [] ≡ cells 3 (verdictOf (r .verdict))

@@ -8,20 +8,24 @@ ghost use Rattle.btree_v2_header.specs.Answers.{headerAnswerOf};
 ghost use Rattle.btree_v2_record.specs.Answers.{valuesAnswerOf};
 ghost use Rattle.btree_v2_collect.specs.Answers.{collectedCells};
 ghost use Rattle.btree_v2_find.specs.Answers.{foundCells};
-ghost use Prim.Native.Nat.{_+_, _≤_};
-ghost use lib.ListN.{length, getD, replicate};
-ghost use Rattle.numbers.specs.Places.{stored, put};
-ghost use Rattle.node_info.specs.Table.{tableAnswer};
+ghost use lib.ListN.{getD};
+ghost use Rattle.numbers.specs.Places.{put};
 use btree_v2_collect::Collected;
 use btree_v2_find::Found;
 use btree_v2_find::Place;
 use btree_v2_header::HeaderAnswer;
 use btree_v2_record::ValuesAnswer;
-use node_info::NodeInfoAnswer;
 use plan::PlanAnswer;
 use refusal::PutAnswer;
 use refusal::Refusal;
-use refusal::Verdict;
+
+// A refusal in five places.
+fn refused_in_five(cause: Refusal) -> [u64; 5]
+    ensures { λ r. ⌜ r ≡ cells 5 (refusalOf cause) ⌝ }
+{
+    let code = cause.code();
+    [code.number, code.first, code.second, 0, 0]
+}
 
 // The plan's figures, which are those of a write too.
 pub fn put_plan(answer: &mut [u64; 5], planned: PlanAnswer)
@@ -38,8 +42,7 @@ pub fn put_plan(answer: &mut [u64; 5], planned: PlanAnswer)
             ];
         }
         PlanAnswer::Refused(cause) => {
-            let code = cause.code();
-            *answer = [code.number, code.first, code.second, 0, 0];
+            *answer = refused_in_five(cause);
         }
     }
 }
@@ -48,9 +51,6 @@ pub fn put_plan(answer: &mut [u64; 5], planned: PlanAnswer)
 pub fn put_header(answer: &mut [u64], parsed: HeaderAnswer)
     ensures { λ _. ⌜ now (answer .exit) ≡ put (now (answer .entry)) 0 (cells 8 (headerAnswerOf parsed)) ⌝ }
 {
-    if answer.len() < 8 {
-        return;
-    }
     match parsed {
         HeaderAnswer::Parsed(header) => {
             let geometry = header.geometry;
@@ -64,12 +64,12 @@ pub fn put_header(answer: &mut [u64], parsed: HeaderAnswer)
                 header.num_records_in_root as u64,
                 header.total_records,
             ];
-            put_column(answer, 0, &figures);
+            answer_columns::put_column(answer, 0, &figures);
         }
         HeaderAnswer::Refused(cause) => {
             let code = cause.code();
             let numbers = [code.number, code.first, code.second, 0, 0, 0, 0, 0];
-            put_column(answer, 0, &numbers);
+            answer_columns::put_column(answer, 0, &numbers);
         }
     }
 }
@@ -148,72 +148,8 @@ pub fn put_values(answer: &mut [u64; 5], read: ValuesAnswer)
                 values.creation_order,
             ];
         }
-        ValuesAnswer::Refused(cause) => put_refusal(answer, cause),
-    }
-}
-
-// Zeros.
-fn clear(numbers: &mut [u64])
-    ensures { λ _. ⌜ now (numbers .exit) ≡ replicate (length (now (numbers .entry))) 0 ⌝ }
-{
-    let n = numbers.len();
-    let mut at = 0;
-    while at < n {
-        numbers[at] = 0;
-        at += 1;
-    }
-}
-
-// A refusal's number and values, and zeros.
-fn put_refusal(answer: &mut [u64], cause: Refusal)
-    requires { ⌜ 3 ≤ length (now answer) ⌝ }
-    ensures { λ _. ⌜ now (answer .exit) ≡ cells (length (now (answer .entry))) (refusalOf cause) ⌝ }
-{
-    let code = cause.code();
-    answer[0] = code.number;
-    answer[1] = code.first;
-    answer[2] = code.second;
-    clear(&mut answer[3..]);
-}
-
-// Numbers, from `at` on.
-fn put_column(answer: &mut [u64], at: usize, column: &[u64])
-    requires { ⌜ at + length (now column) ≤ length (now answer) ⌝ }
-    ensures { λ _. ⌜ now (answer .exit) ≡ stored (now (answer .entry)) at (now (column .entry)) ⌝ }
-{
-    let mut i = 0;
-    while i < column.len() {
-        answer[at + i] = column[i];
-        i += 1;
-    }
-}
-
-// A column of widths, from `at` on.
-fn put_widths(answer: &mut [u64], at: usize, widths: &[u8])
-    requires { ⌜ at + length (now widths) ≤ length (now answer) ⌝ }
-    ensures { λ _. ⌜ now (answer .exit) ≡ stored (now (answer .entry)) at (now (widths .entry)) ⌝ }
-{
-    let mut level = 0;
-    while level < widths.len() {
-        answer[at + level] = widths[level] as u64;
-        level += 1;
-    }
-}
-
-// The capacity table.
-pub fn put_node_info(answer: &mut [u64; 101], computed: NodeInfoAnswer)
-    ensures { λ _. ⌜ now (answer .exit) ≡ cells 101 (tableAnswer (computed .verdict) (computed .info)) ⌝ }
-{
-    let verdict = computed.verdict;
-    match verdict {
-        Verdict::Accepted => {
-            let info = computed.info;
-            answer[0] = 0;
-            answer[1] = info.max_nrec_size as u64;
-            put_column(answer, 2, &info.max_nrec);
-            put_column(answer, 35, &info.cum_max_nrec);
-            put_widths(answer, 68, &info.cum_max_nrec_size);
+        ValuesAnswer::Refused(cause) => {
+            *answer = refused_in_five(cause);
         }
-        Verdict::Refused(cause) => put_refusal(answer, cause),
     }
 }

@@ -43,7 +43,7 @@ pub extern "C" fn btree_v2_node_info(
         offset_size,
     };
     let computed = NodeInfo::compute(geometry, depth);
-    answers::put_node_info(answer, computed);
+    answer_columns::put_node_info(answer, computed);
 }
 
 // The plan: depth, nodes, leaves, image size.

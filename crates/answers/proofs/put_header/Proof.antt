@@ -1,5 +1,5 @@
 -- `put_header`: the fields, or the refusal, where there are eight places.
-use Rattle.answers.proofs.Putting.{header-short, header-put, header-refused}
+use Rattle.answers.proofs.Putting.{header-put, header-refused}
 use borrow.Author.Needs.{needs}
 use Rattle.answers.proofs.put_header.Statement.{statement}
 use Rattle.answers.proofs.put_header.Tie as tie
@@ -8,7 +8,6 @@ pub put-header-spec : {M : Type 1} → statement M
 put-header-spec =
     tie.close
     (tie.spec
-    (λ c. search header-short)
     (λ c. search needs) (λ c. search needs) (λ c. search needs) (λ c. search needs) (λ c. search needs)
     (λ c. search needs) (λ c. search needs) (λ c κs. search needs) (λ c. search needs) (λ c κs. search needs)
     (λ c. search needs) (λ c κs. search needs) (λ c. search needs)

@@ -10,4 +10,4 @@ put-plan-spec =
     (tie.spec
     (λ c. search needs) (λ c. search needs) (λ c. search needs) (λ c κs. search needs)
     (λ c. plan-put (c .before .before .before .planned .given .1))
-    (λ c. plan-refused _ (c .before .before .before .planned2 .given .1) (c .before .code .ensures)))
+    (λ c. plan-refused _ (c .before .before .planned2 .given .1) (c .refused-in-five .ensures)))

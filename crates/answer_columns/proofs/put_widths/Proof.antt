@@ -1,11 +1,11 @@
 -- The loop of `put_widths`: the first i numbers of the column are at their place.
 use Prim.Native.Nat.{_-_}
 use lib.ListN.{length}
-use Rattle.answers.proofs.Table.{Copied, copied-start, copied-turn, copied-end}
+use Rattle.answer_columns.proofs.Table.{Copied, copied-start, copied-turn, copied-end}
 use borrow.Author.Needs.{needs}
 use native.Mathlib.Omega.{arith}
-use Rattle.answers.proofs.put_widths.Statement.{statement}
-use Rattle.answers.proofs.put_widths.Tie as tie
+use Rattle.answer_columns.proofs.put_widths.Statement.{statement}
+use Rattle.answer_columns.proofs.put_widths.Tie as tie
 
 abbrev Inv-loop : tie.InvT-loop
 Inv-loop o at column i₀ d i = Copied o at column d i

@@ -1,10 +1,10 @@
--- The loop of `put_column`: the first i numbers of the column are at their place.
+-- The loop of `copy_column`: the first i numbers of the column are at their place.
 use Prim.Native.Nat.{_-_}
 use lib.ListN.{length}
-use Rattle.answers.proofs.Table.{Copied, copied-start, copied-turn, copied-end}
+use Rattle.answer_columns.proofs.Table.{Copied, copied-start, copied-turn, copied-end}
 use borrow.Author.Needs.{needs}
-use Rattle.answers.proofs.put_column.Statement.{statement}
-use Rattle.answers.proofs.put_column.Tie as tie
+use Rattle.answer_columns.proofs.copy_column.Statement.{statement}
+use Rattle.answer_columns.proofs.copy_column.Tie as tie
 
 abbrev Inv-loop : tie.InvT-loop
 Inv-loop o at column i₀ d i = Copied o at column d i
@@ -12,8 +12,8 @@ Inv-loop o at column i₀ d i = Copied o at column d i
 abbrev μ-loop : tie.MeasureT-loop
 μ-loop o at column i₀ d i = length column - i
 
-pub put-column-spec : {M : Type 1} → statement M
-put-column-spec =
+pub copy-column-spec : {M : Type 1} → statement M
+copy-column-spec =
     tie.close
     (tie.spec
     Inv-loop

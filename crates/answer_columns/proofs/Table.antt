@@ -1,5 +1,5 @@
--- The capacity table in the caller's array, in the forms in which the functions' proofs have it.
-use mathlib.Core.Path.{_≡_, refl}
+-- The capacity table in the caller's array, in the forms in which the functions' proofs have it; and a column of numbers.
+use mathlib.Core.Path.{_≡_, refl, sym, _∙_}
 use mathlib.Core.List.{List, [], _∷_, _++_, append-assoc, append-nil}
 use Prim.Native.Nat.{ℕ, suc, _+_, _-_, _≤_, _<_}
 use native.Mathlib.Nat.{zero-add}
@@ -8,8 +8,8 @@ use native.Mathlib.Omega.{arith}
 use lib.ListN.{length, getD, take, drop, set, replicate, length-append, length-set}
 use lib.Seq.{length-take-le, take-all, take-suc, take-length, drop-length}
 use borrow.Author.Needs.{zero≤}
-use Rattle.numbers.specs.Places.{stored}
-use Rattle.numbers.proofs.Lists.{stored-nil, stored-snoc, stored-append, stored-whole}
+use Rattle.numbers.specs.Places.{stored, put}
+use Rattle.numbers.proofs.Lists.{stored-nil, stored-snoc, stored-append, stored-whole, put-fits, put-not}
 use Rattle.refusal.specs.declared.Refusal.{Refusal}
 use Rattle.refusal.specs.declared.Verdict.{Verdict}
 use Rattle.refusal.specs.declared.Verdict.the-variants.{Accepted}
@@ -36,6 +36,17 @@ module _ (o : List ℕ) (at : ℕ) (column : List ℕ) where
 
     pub copied-end : length column ≤ i → d ≡ stored o at column
     copied-end h = rw (inv .2, take-all i column h)
+
+-- `put_column`: no place, no room, or the numbers.
+module _ (o : List ℕ) (at : ℕ) (column : List ℕ) where
+  pub column-no-place : length o < at → o ≡ put o at column
+  column-no-place h = sym (put-not o at column (omega arith))
+
+  pub column-no-room : at ≤ length o → length o - at < length column → o ≡ put o at column
+  column-no-room l h = sym (put-not o at column (omega arith))
+
+  pub column-put : {d : List ℕ} → at ≤ length o → length column ≤ length o - at → d ≡ stored o at column → d ≡ put o at column
+  column-put l h e = e ∙ sym (put-fits o at column (omega arith))
 
 -- A refusal's number n and its values x and y in the first places of a; then zeros z in the others.
 abbrev Code : List ℕ → ℕ → ℕ → ℕ → List ℕ

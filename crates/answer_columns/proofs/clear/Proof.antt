@@ -2,8 +2,8 @@
 use Rattle.numbers.proofs.Copying.{Cleared, cleared-start, cleared-turn, cleared-end}
 use Prim.Native.Nat.{_-_}
 use borrow.Author.Needs.{needs}
-use Rattle.answers.proofs.clear.Statement.{statement}
-use Rattle.answers.proofs.clear.Tie as tie
+use Rattle.answer_columns.proofs.clear.Statement.{statement}
+use Rattle.answer_columns.proofs.clear.Tie as tie
 
 abbrev Inv-loop : tie.InvT-loop
 Inv-loop o n i₀ d i = Cleared o d i

@@ -1,12 +1,12 @@
 -- `put_refusal`: the number and values, and zeros in the other places.
 use lib.ListN.{length-set}
 use Rattle.refusal.specs.Answer.{refusalOf}
-use Rattle.answers.proofs.Table.{refusal-put}
+use Rattle.answer_columns.proofs.Table.{refusal-put}
 use Rattle.refusal.proofs.Answers.{put-length}
 use borrow.Author.Needs.{needs}
 use native.Mathlib.Omega.{arith}
-use Rattle.answers.proofs.put_refusal.Statement.{statement}
-use Rattle.answers.proofs.put_refusal.Tie as tie
+use Rattle.answer_columns.proofs.put_refusal.Statement.{statement}
+use Rattle.answer_columns.proofs.put_refusal.Tie as tie
 
 pub put-refusal-spec : {M : Type 1} → statement M
 put-refusal-spec =

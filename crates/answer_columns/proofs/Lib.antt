@@ -1,0 +1,2 @@
+-- What stands in the caller's array.
+mod Table
