@@ -22,7 +22,7 @@ use Rattle.btree_v2_collect.specs.declared.Collected.{Collected}
 use Rattle.btree_v2_collect.proofs.Bases.{collected-whole}
 use Rattle.btree_v2_find.specs.Find.{found, foundAt}
 use Rattle.btree_v2_find.proofs.Bases.{found-whole}
-use Rattle.btree_v2.specs.Given.{sizes, given, headerOf}
+use Rattle.header_figures.specs.Figures.{headerOf}
 
 -- Numbers of a header that are within their fields' ranges.
 pub record InRange (h : BTreeV2Header) : Type 0 where
@@ -56,15 +56,9 @@ unfolding headerAt
 carried-on file base o ow lw h bytes parses =
     rw (parses .fields h refl) (told-as-read _ (in-range (drop base file) base o ow lw (λ i. rw (getD-drop base file i 0) (bytes (base + i)))))
 
--- `base_of` and `header_of`.
-pub no-base : (figures : List ℕ) → length figures < 8 → 0 ≡ getD figures 7 0
+-- Of seven figures the base is 0.
+no-base : (figures : List ℕ) → length figures < 8 → 0 ≡ getD figures 7 0
 no-base figures h = sym (List·getD-eq-default figures 0 (omega arith))
-
-pub told-header : (figures : List ℕ) (ow base : ℕ) → base ≡ getD figures 7 0
-    → given (getD figures 0 0 % 2 ^ 8) (sizes (getD figures 1 0 % 2 ^ 32) (getD figures 2 0 % 2 ^ 16) ow) (getD figures 3 0 % 2 ^ 16)
-    (getD figures 4 0) (getD figures 5 0 % 2 ^ 16) (getD figures 6 0) base
-    ≡ headerOf figures ow
-told-header figures ow base e = rw e
 
 -- A header read's numbers over the front of an answer of eight places, or of nine, with the base behind them.
 module _ (o n : List ℕ) (x y : Answer) (same : x ≡ y) (room : (8 ≤ length o) × (length o ≤ 9)) (read : n ≡ put o 0 (cells 8 x)) where

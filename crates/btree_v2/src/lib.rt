@@ -4,7 +4,7 @@
 ghost use mathlib.Core.Path.{_≡_};
 ghost use mathlib.Core.List.{[], _∷_};
 ghost use Prim.Native.Nat.{_≤_};
-ghost use lib.ListN.{length, getD};
+ghost use lib.ListN.{length};
 ghost use Rattle.refusal.specs.Answer.{cells};
 ghost use Rattle.node_info.specs.Table.{tabled};
 ghost use Rattle.plan.specs.Planned.{planAnswer};
@@ -14,7 +14,8 @@ ghost use Rattle.btree_v2_collect.specs.Collect.{collected, collectedAt, runCel
 ghost use Rattle.btree_v2_find.specs.Find.{found, foundAt};
 ghost use Rattle.btree_v2_leaf_view.specs.Look.{recordAnswer, recordExit, recordAnswerAt, recordExitAt};
 ghost use Rattle.btree_v2_record.specs.Records.{recordRead, recordWritten, recordOutput};
-ghost use Rattle.btree_v2.specs.Given.{sizes, asked, given, headerOf, fieldAt};
+ghost use Rattle.btree_v2.specs.Given.{asked, fieldAt};
+ghost use Rattle.header_figures.specs.Figures.{sizes, given, headerOf};
 use btree_v2_collect::collect;
 use btree_v2_header::BTreeV2Header;
 use btree_v2_leaf_view::copy_leaf_record;
@@ -104,38 +105,6 @@ pub extern "C" fn btree_v2_write(
     answers::put_plan(answer, written);
 }
 
-// The base of a header's figures: the eighth, 0 where there are seven.
-fn base_of(figures: &[u64]) -> u64
-    ensures { λ r. ⌜ r ≡ getD (now (figures .entry)) 7 0 ⌝ }
-{
-    if figures.len() < 8 {
-        return 0;
-    }
-    figures[7]
-}
-
-// The header that its figures tell, as btree_v2_parse or btree_v2_parse_at gives them; a number above its field's range counts modulo that
-// range.
-fn header_of(figures: &[u64], offset_size: u8) -> BTreeV2Header
-    requires { ⌜ 7 ≤ length (now figures) ⌝ }
-    ensures { λ r. ⌜ r ≡ headerOf (now (figures .entry)) «offset_size» ⌝ }
-{
-    let geometry = Geometry {
-        node_size: (figures[1] % 0x1_0000_0000) as u32,
-        record_size: (figures[2] % 0x1_0000) as u16,
-        offset_size,
-    };
-    BTreeV2Header {
-        tree_type: (figures[0] % 0x100) as u8,
-        geometry,
-        depth: (figures[3] % 0x1_0000) as u16,
-        root_node_address: figures[4],
-        num_records_in_root: (figures[5] % 0x1_0000) as u16,
-        total_records: figures[6],
-        base: base_of(figures),
-    }
-}
-
 // The header at an offset of the part of a file from a base on, into eight places, or nine with the base.
 fn parse_into(
     file: &[u8],
@@ -198,7 +167,11 @@ pub extern "C" fn btree_v2_collect_at(
     ensures answered { λ _. ⌜ now (answer .exit) ≡ runCells (collectedAt (now (file .entry)) (headerOf (now (header .entry)) «offset_size») (now (output .entry))) ⌝ }
     ensures outputLeft { λ _. ⌜ now (output .exit) ≡ runOutput (collectedAt (now (file .entry)) (headerOf (now (header .entry)) «offset_size») (now (output .entry))) ⌝ }
 {
-    let collected = collect::collect_btree_v2_records(file, header_of(header, offset_size), output);
+    let collected = collect::collect_btree_v2_records(
+        file,
+        header_figures::header_of(header, offset_size),
+        output,
+    );
     answers::put_collected(answer, collected);
 }
 
@@ -244,14 +217,18 @@ fn find_told(
     key: u64,
     answer: &mut [u64; 6],
 )
-    requires { ⌜ 7 ≤ length (now figures) ⌝ }
     ensures { λ _. ⌜ now (answer .exit) ≡ foundAt (now (file .entry)) (headerOf (now (figures .entry)) «offset_size») (fieldAt «key_start» «key_width») key ⌝ }
 {
     let field = Field {
         start: key_start,
         width: key_width,
     };
-    let found = btree_v2_find::find(file, header_of(figures, offset_size), field, key);
+    let found = btree_v2_find::find(
+        file,
+        header_figures::header_of(figures, offset_size),
+        field,
+        key,
+    );
     answers::put_found(answer, found);
 }
 

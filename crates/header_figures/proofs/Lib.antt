@@ -1,0 +1,2 @@
+-- The laws of a header's figures.
+mod Telling

@@ -1,0 +1,2 @@
+-- The definitions that the contracts of the crate cite.
+pub mod Figures
