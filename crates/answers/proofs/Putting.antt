@@ -1,15 +1,15 @@
 -- What stands in the caller's array, in the forms in which the functions' proofs have it.
-use mathlib.Core.Path.{_≡_, refl, sym, ap, _∙_}
+use mathlib.Core.Path.{_≡_, refl, ap, _∙_}
 use mathlib.Core.Bool.{Bool, true, false}
-use mathlib.Core.List.{List, [], _∷_, _++_}
-use Prim.Native.Nat.{ℕ, suc, _+_, _≤_, _<_}
+use mathlib.Core.List.{List, [], _∷_}
+use Prim.Native.Nat.{ℕ, suc, _+_, _≤_}
 use native.Mathlib.Omega.{arith}
 use lib.Dec.{leb}
 use lib.ListN.{length, getD, length-append}
 use borrow.Author.Tests.{leb-true}
 use Rattle.numbers.specs.Numbers.{pick}
 use Rattle.numbers.specs.Places.{stored, put}
-use Rattle.numbers.proofs.Lists.{put-fits, put-not, length-stored}
+use Rattle.numbers.proofs.Lists.{length-stored}
 use Rattle.refusal.specs.declared.Refusal.{Refusal}
 use Rattle.refusal.specs.declared.PutAnswer.{PutAnswer}
 use Rattle.refusal.specs.declared.PutAnswer.the-variants as put

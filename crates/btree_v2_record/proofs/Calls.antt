@@ -1,16 +1,15 @@
 -- The two calls: each way out gives what the definition says. (`first` is the place of the type's first field.)
-use mathlib.Core.Path.{_≡_, refl, sym, ap, _∙_}
+use mathlib.Core.Path.{_≡_, refl, sym, _∙_}
 use mathlib.Core.Bool.{Bool, true, false, not}
 use mathlib.Core.List.{List, [], _∷_}
 use Prim.Native.Nat.{ℕ, _+_, _≤_, _<_}
-use native.Mathlib.Omega.{arith}
-use lib.Dec.{leb, ltb, eqb}
-use lib.ListN.{length, getD, replicate}
+use lib.Dec.{leb}
+use lib.ListN.{length, replicate}
 use borrow.Author.Tests.{lt-ltb, le-ltb, eq-eqb, ne-eqb, le-leb, lt-leb, leb-true, not-true, not-false}
 use Rattle.numbers.specs.Numbers.{part}
-use Rattle.numbers.specs.Places.{stored, over}
+use Rattle.numbers.specs.Places.{stored}
 use Rattle.numbers.proofs.Copying.{over-stored}
-use Rattle.refusal.specs.Answer.{Answer, accepted, refused, orElse, ifAccepted}
+use Rattle.refusal.specs.Answer.{Answer, accepted, refused}
 use Rattle.btree_v2_record.specs.Records.{RecordField, fieldTable, isIn, fieldsIn, recordLength, recordBytes, valuesFit, recordRead, recordWritten, recordOutput}
 use Rattle.btree_v2_record.specs.declared.RecordValues.{RecordValues}
 use Rattle.btree_v2_record.specs.Answers.{valuesOf}

@@ -1,14 +1,12 @@
 -- Reading and writing are inverse for every type of the table; what a write leaves; fields that a type lacks; types that are not in the table.
 use mathlib.Core.Path.{_≡_, refl, sym, ap, _∙_}
-use mathlib.Core.Bool.{Bool, true, false, not, _&&_, _||_, true≢false}
-use mathlib.Core.List.{List, [], _∷_, _++_, append-nil}
-use Prim.Native.Nat.{ℕ, zero, suc, _+_, _^_, _≤_, _<_}
+use mathlib.Core.Bool.{Bool, true, false}
+use mathlib.Core.List.{List, [], _∷_, append-nil}
+use Prim.Native.Nat.{ℕ, zero, suc, _^_, _≤_, _<_}
 use native.Mathlib.Omega.{arith}
-use lib.Dec.{leb, ltb, eqb}
 use lib.ListN.{length, getD, take, drop}
 use lib.Seq.{take-at, drop-at}
-use borrow.Author.Tests.{leb-true, ltb-true, le-leb, lt-ltb, eqb-true, eqb-false, eq-eqb, not-true}
-use Rattle.numbers.specs.Numbers.{pick, unle}
+use borrow.Author.Tests.{leb-true, le-leb, eqb-true, eq-eqb}
 use Rattle.numbers.specs.Places.{over}
 use Rattle.refusal.specs.Answer.{Answer, accepted, refused, orElse}
 use Rattle.btree_v2_record.specs.Records.{RecordField, fieldTable, isIn, fieldsIn, recordLength, recordBytes, valueIn, valuesIn, valuesFit, recordRead, recordWritten, recordOutput}

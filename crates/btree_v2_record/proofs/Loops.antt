@@ -2,15 +2,15 @@
 use mathlib.Core.Path.{_≡_, refl, sym, ap, _∙_}
 use mathlib.Core.Bool.{Bool, true, false, not, _&&_}
 use mathlib.Core.List.{List, [], _∷_, _++_}
-use Prim.Native.Nat.{ℕ, zero, suc, _+_, _-_, _*_, _/_, _^_, _≤_, _<_, min}
-use native.Mathlib.Nat.{add-zero, add-assoc, zero-add, min-eq-left, div-eq-of-lt, div-lt-iff-lt-mul, one-mul}
+use Prim.Native.Nat.{ℕ, zero, suc, _+_, _-_, _*_, _/_, _^_, _≤_, _<_}
+use native.Mathlib.Nat.{add-zero, add-assoc, zero-add, div-eq-of-lt, div-lt-iff-lt-mul}
 use native.Mathlib.Omega.{arith}
 use lib.Dec.{leb, ltb, eqb, lit≤}
 use lib.ListN.{length, getD, set, take, drop, replicate, length-set}
 use lib.Pow.{pow-pos}
 use lib.Seq.{drop-drop}
 use borrow.Author.Needs.{zero≤}
-use borrow.Author.Tests.{le-leb, lt-ltb, le-ltb, eq-eqb, ne-eqb, ltb-true, ltb-false, not-true, not-false}
+use borrow.Author.Tests.{le-leb, lt-ltb, eq-eqb, ne-eqb, ltb-true, ltb-false, not-true, not-false}
 use Rattle.numbers.specs.Numbers.{pick, le, unle, part, num}
 use Rattle.numbers.specs.Places.{stored, put}
 use Rattle.numbers.proofs.Numbers.{le-length, pow-256}

@@ -1,5 +1,5 @@
 -- `number_before`: a number out of 8 bytes that are read at once.
-use mathlib.Core.Path.{_≡_, refl, sym, _∙_}
+use mathlib.Core.Path.{_≡_, _∙_}
 use mathlib.Core.List.{List}
 use Prim.Native.Nat.{ℕ, _+_, _-_, _*_, _/_, _%_, _^_, _≤_, _<_, min}
 use native.Mathlib.Nat.{add-zero, zero-add, min-eq-left, le-of-lt, one-le-pow, div-eq-of-lt, add-mul-div-left}

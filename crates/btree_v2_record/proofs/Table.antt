@@ -1,13 +1,13 @@
 -- The table of fields: its columns, what holds of every field and of every type, and the fields that are left in a loop over four of them.
-use mathlib.Core.Path.{_≡_, refl, sym, ap, _∙_}
+use mathlib.Core.Path.{_≡_, refl, sym}
 use mathlib.Core.Bool.{Bool, true, false, _&&_, _||_, true≢false}
-use mathlib.Core.List.{List, [], _∷_, _++_, map}
+use mathlib.Core.List.{List, [], _∷_, map}
 use Prim.Native.Nat.{ℕ, zero, suc, _+_, _-_, _≤_, _<_}
 use native.Mathlib.Nat.{add-zero, add-assoc}
 use native.Mathlib.Omega.{arith}
-use lib.Dec.{leb, ltb, eqb, lit≤}
+use lib.Dec.{leb, ltb, eqb}
 use lib.ListN.{length, getD, List·getD-map}
-use borrow.Author.Tests.{ltb-true, leb-true, eqb-true, ne-eqb}
+use borrow.Author.Tests.{ltb-true, leb-true, ne-eqb}
 use Rattle.numbers.specs.Numbers.{pick, part}
 use Rattle.numbers.proofs.Lists.{part-cons}
 use Rattle.btree_v2_record.specs.Records.{RecordField, field, RecordType, fieldTable, isIn, fieldsIn}

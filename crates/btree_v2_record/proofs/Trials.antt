@@ -6,8 +6,8 @@ use Prim.Native.Nat.{ℕ}
 use lib.ListN.{take, replicate}
 use Rattle.numbers.specs.Numbers.{le, unle}
 use Rattle.numbers.specs.Places.{over}
-use Rattle.refusal.specs.Answer.{Answer, accepted, refused}
-use Rattle.btree_v2_record.specs.Records.{fieldTable, isIn, fieldsIn, recordLength, recordBytes, valueIn, valuesIn, valuesFit, recordRead, recordWritten, recordOutput}
+use Rattle.refusal.specs.Answer.{accepted, refused}
+use Rattle.btree_v2_record.specs.Records.{isIn, fieldsIn, recordLength, recordBytes, valueIn, valuesIn, valuesFit, recordRead, recordWritten, recordOutput}
 
 -- The bytes 1, 2, 3 and so on.
 counted : ℕ → List ℕ

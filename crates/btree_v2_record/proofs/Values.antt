@@ -9,10 +9,10 @@ use native.Mathlib.Omega.{arith}
 use lib.Dec.{ltb, eqb, lit<}
 use lib.ListN.{length, getD, set, take, drop, replicate, length-set, length-drop, length-append, length-take, take-append-drop, List·getD-eq-default}
 use lib.Seq.{getD-set-same, getD-set-other, getD-drop, getD-take, take-at, drop-at, length-take-le}
-use borrow.Author.Tests.{ltb-true, lt-ltb, eqb-true, eqb-false, eq-eqb, ne-eqb, not-true}
+use borrow.Author.Tests.{ltb-true, lt-ltb, eqb-true, eqb-false, eq-eqb, not-true}
 use Rattle.numbers.specs.Numbers.{pick, le, unle}
 use Rattle.numbers.proofs.Numbers.{le-length, le-unle, unle-le, unle-lt, lt-or-le}
-use Rattle.btree_v2_record.specs.Records.{RecordField, nameHash, heapId, messageFlags, creationOrder, fieldTable, isIn, fieldsIn, recordLength, recordBytes, valueIn, valuesIn, valuesFit}
+use Rattle.btree_v2_record.specs.Records.{RecordField, fieldTable, isIn, fieldsIn, recordLength, recordBytes, valueIn, valuesIn, valuesFit}
 use Rattle.btree_v2_record.specs.Inverse.{named, once, amongFour, eachOnce}
 use Rattle.btree_v2_record.specs.Steps.{filled}
 use Rattle.btree_v2_record.proofs.Table.{and-true, every, fields-pass}

@@ -1,6 +1,6 @@
 -- The widths of fields: what a field that a type lacks reads as, and which values fit.
 use mathlib.Core.Path.{_≡_, refl, sym, ap, _∙_}
-use mathlib.Core.Bool.{Bool, true, false, not, _&&_, _||_, true≢false}
+use mathlib.Core.Bool.{Bool, true, false, not, _||_, true≢false}
 use mathlib.Core.Logic.{_↔_}
 use mathlib.Core.List.{List, [], _∷_}
 use Prim.Native.Nat.{ℕ, _^_, _<_}

@@ -1,5 +1,5 @@
 -- `figure` and `header_of`: each figure, 0 where there are fewer, modulo its field's range.
-use mathlib.Core.Path.{_≡_, refl, sym}
+use mathlib.Core.Path.{_≡_, sym}
 use mathlib.Core.List.{List}
 use Prim.Native.Nat.{ℕ, _%_, _^_, _≤_}
 use lib.ListN.{length, getD, List·getD-eq-default}

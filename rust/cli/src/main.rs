@@ -1,5 +1,6 @@
-//! Writes the index of an example site into a file, reads it back, finds one bay in it, does so again
-//! behind a block of site notes, and shows what damaged copies of the file get.
+//! Writes the index of an example site into a file, reads it back, finds one bay in it and reads its
+//! record by its meaning, does so again behind a block of site notes, and shows what damaged copies
+//! of the file get.
 
 mod index;
 mod site;
@@ -7,6 +8,7 @@ mod site;
 use std::error::Error;
 use std::process::ExitCode;
 
+use nuldrafon::{jenkins_lookup3, RecordValues};
 use site::Bay;
 
 /// The bay that is found, and whose record is damaged; and one that the site does not have.
@@ -39,6 +41,7 @@ fn run() -> Result<(), Box<dyn Error>> {
     let file = write(&records)?;
     read(&file, &records)?;
     let place = find(&file, &bays)?;
+    meaning(&file, place)?;
     behind_notes(&file, &records, place)?;
     damage(&file, place)
 }
@@ -99,6 +102,26 @@ fn find(file: &[u8], bays: &[Bay]) -> Result<usize, Box<dyn Error>> {
         found.nodes,
     );
     Ok(place)
+}
+
+/// Reads the record of the bay that was found by its meaning, and writes it again.
+fn meaning(file: &[u8], place: usize) -> Result<(), Box<dyn Error>> {
+    let record = &file[place..][..site::RECORD_SIZE.into()];
+    let values = RecordValues::read(site::TREE_TYPE, record)?;
+    if values.name_hash != jenkins_lookup3(HIT.as_bytes()).into() {
+        return Err("the record's name hash is not the bay's".into());
+    }
+    if values.write_to_vec(site::TREE_TYPE)? != record {
+        return Err("the record written again is not the one read".into());
+    }
+    println!(
+        "\nBy its meaning: the record has the name hash {:#010x}, that of {HIT}, and the heap id\n\
+         {:#x}. Written again from these two it has the same {} bytes.",
+        values.name_hash,
+        values.heap_id,
+        record.len(),
+    );
+    Ok(())
 }
 
 /// Puts site notes before the file; told how long they are, the reader has the same records and the
