@@ -22,6 +22,7 @@ use btree_v2_leaf_view::copy_leaf_record;
 use btree_v2_record::RecordValues;
 use field::Field;
 use format::Request;
+use header_figures::header_of;
 use node_info::Geometry;
 use node_info::NodeInfo;
 use plan::BTreeV2Plan;
@@ -167,11 +168,7 @@ pub extern "C" fn btree_v2_collect_at(
     ensures answered { λ _. ⌜ now (answer .exit) ≡ runCells (collectedAt (now (file .entry)) (headerOf (now (header .entry)) «offset_size») (now (output .entry))) ⌝ }
     ensures outputLeft { λ _. ⌜ now (output .exit) ≡ runOutput (collectedAt (now (file .entry)) (headerOf (now (header .entry)) «offset_size») (now (output .entry))) ⌝ }
 {
-    let collected = collect::collect_btree_v2_records(
-        file,
-        header_figures::header_of(header, offset_size),
-        output,
-    );
+    let collected = collect::collect_btree_v2_records(file, header_of(header, offset_size), output);
     answers::put_collected(answer, collected);
 }
 
@@ -223,12 +220,7 @@ fn find_told(
         start: key_start,
         width: key_width,
     };
-    let found = btree_v2_find::find(
-        file,
-        header_figures::header_of(figures, offset_size),
-        field,
-        key,
-    );
+    let found = btree_v2_find::find(file, header_of(figures, offset_size), field, key);
     answers::put_found(answer, found);
 }
 
