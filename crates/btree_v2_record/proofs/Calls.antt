@@ -59,23 +59,23 @@ module _ (t first : ℕ) (at : FirstField t first) where
     abbrev Wrote : Answer → List ℕ → Type 0
     Wrote answer exit = (answer ≡ recordWritten t v out) × (exit ≡ recordOutput t v out)
 
-    refused-left : (number : ℕ) (values : List ℕ) → recordWritten t v out ≡ refused number values → Wrote (refused number values) out
+    refused-so : (number : ℕ) (values : List ℕ) → recordWritten t v out ≡ refused number values → Wrote (refused number values) out
     unfolding recordOutput
-    refused-left number values e = (sym e, rw e)
+    refused-so number values e = (sym e, rw e)
 
     pub write-unknown : 16 ≤ first → Wrote (refused 19 []) out
     unfolding recordWritten
-    write-unknown h = refused-left 19 [] (rw (unknown h))
+    write-unknown h = refused-so 19 [] (rw (unknown h))
 
     module _ (fit : Bool) (h : first < 16) (is : fit ≡ valuesFit (part (allFields fieldTable) first 4) v) where
       pub write-mismatch : not fit ≡ true → Wrote (refused 20 []) out
       unfolding recordWritten
-      write-mismatch e = refused-left 20 [] (rw (known h, at .fields, ← is, not-true fit e))
+      write-mismatch e = refused-so 20 [] (rw (known h, at .fields, ← is, not-true fit e))
 
       module _ (n : ℕ) (yes : not fit ≡ false) (size : n ≡ recordLength (part (allFields fieldTable) first 4)) where
         pub write-short : length out < n → Wrote (refused 15 (length out ∷ [])) out
         unfolding recordWritten
-        write-short short = refused-left 15 (length out ∷ []) (rw (known h, at .fields, ← is, not-false fit yes, ← size, lt-leb n (length out) short))
+        write-short short = refused-so 15 (length out ∷ []) (rw (known h, at .fields, ← is, not-false fit yes, ← size, lt-leb n (length out) short))
 
         pub write-accepted : (exit : List ℕ) → n ≤ length out → exit ≡ stored out 0 (recordBytes (part (allFields fieldTable) first 4) v) → Wrote (accepted (n ∷ [])) exit
         unfolding recordWritten recordOutput

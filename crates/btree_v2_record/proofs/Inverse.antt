@@ -109,14 +109,18 @@ read-back t values out n four e =
     let each = table-each-once t (written .known) in
     rw (written-front t values out n e, written .known, eq-eqb _ _ (length-bytes (fieldsIn fieldTable t) values), values-back (fieldsIn fieldTable t) values each (written .fit) four)
 
+values-at : (t : ℕ) (bytes values : List ℕ) → ReadOf t bytes values → NamesEach (fieldsIn fieldTable t)
+    → (m : ℕ) → named (fieldsIn fieldTable t) m ≡ true → getD values m 0 ≡ valueIn (fieldsIn fieldTable t) bytes m
+values-at t bytes values read each m n =
+    rw (← read .are) (value-at (fieldsIn fieldTable t) bytes m (named-small (fieldsIn fieldTable t) m (each .four) n))
+
 written-back : (t : ℕ) (bytes values out : List ℕ) → ((i : ℕ) → getD bytes i 0 < 256) → recordRead t bytes ≡ accepted values → length bytes ≤ length out
     → (recordWritten t values out ≡ accepted (length bytes ∷ [])) × (recordOutput t values out ≡ over bytes out)
 unfolding recordWritten
 written-back t bytes values out small e room =
     let read = read-of t bytes values e in
     let each = table-each-once t (read .known) in
-    let at : (m : ℕ) → named (fieldsIn fieldTable t) m ≡ true → getD values m 0 ≡ valueIn (fieldsIn fieldTable t) bytes m = (λ m n. rw (← read .are) (value-at (fieldsIn fieldTable t) bytes m (named-small (fieldsIn fieldTable t) m (each .four) n))) in
-    let same = written-read (fieldsIn fieldTable t) bytes values (each .noneTwice) (read .long) small at in
+    let same = written-read (fieldsIn fieldTable t) bytes values (each .noneTwice) (read .long) small (values-at t bytes values read each) in
     let answer : recordWritten t values out ≡ accepted (length bytes ∷ []) = rw (read .known, same .0, ← read .long, le-leb _ _ room) in
     (answer, written-output t values out (length bytes) answer ∙ ap (λ b. over b out) (same .1))
 

@@ -36,14 +36,22 @@ length-more : (f : RecordField) (fs : List RecordField) → recordLength (f ∷ 
 unfolding recordLength
 length-more f fs = refl
 
+-- The fields that are left are as wide as the first of them and the others.
+left-wide : (first i w : ℕ) → first + 4 ≤ 16 → i < 4 → (w ≡ fieldAt (first + i) .width) × (w ≤ 8)
+    → recordLength (left first i) ≡ w + recordLength (left first (i + 1))
+left-wide first i w fits h width = rw (left-turn first i fits h, length-more, width .0)
+
 pub summed-start : (first : ℕ) → Summed first 0 0
 summed-start first = record { few = zero≤; small = zero≤; leads = rw (left-all, zero-add) }
 
 module _ (first sum i : ℕ) (inv : Summed first sum i) where
   pub summed-turn : (w : ℕ) → first + 4 ≤ 16 → i < 4 → (w ≡ fieldAt (first + i) .width) × (w ≤ 8) → Summed first (sum + w) (i + 1)
   summed-turn w fits h is =
-      let e : recordLength (left first i) ≡ w + recordLength (left first (i + 1)) = rw (left-turn first i fits h, length-more, is .0) in
-      record { few = omega arith; small = omega (arith, inv .small, is .1); leads = rw (add-assoc, ← e) (inv .leads) }
+      record {
+        few = omega arith;
+        small = omega (arith, inv .small, is .1);
+        leads = rw (add-assoc, ← left-wide first i w fits h is) (inv .leads);
+      }
 
   pub summed-end : 4 ≤ i → sum ≡ recordLength (four first)
   unfolding recordLength
@@ -116,7 +124,7 @@ module _ (first : ℕ) (v o d : List ℕ) (at i : ℕ) (inv : Putting first v o 
   putting-turn m w at₁ e fits h meaning width wrote =
       let b : List ℕ = le w (getD v m 0) in
       let size : length b ≡ w = le-length w (getD v m 0) in
-      let wide : recordLength (left first i) ≡ w + recordLength (left first (i + 1)) = rw (left-turn first i fits h, length-more, width .0) in
+      let wide = left-wide first i w fits h width in
       let within : at + w ≤ length d = omega (arith, inv .long, inv .room) in
       let is : e ≡ stored d at b = wrote .0 ∙ put-fits d at b (rw size within) in
       let on : at₁ ≡ at + w = wrote .1 ∙ rw (le-leb (at + w) (length d) within) in
@@ -161,12 +169,9 @@ filling-start first b h = record { few = zero≤; long = refl; place = rw (left-
 
 module _ (first : ℕ) (b v : List ℕ) (at i : ℕ) (inv : Filling first b v at i) where
   module _ (w : ℕ) (fits : first + 4 ≤ 16) (h : i < 4) (width : (w ≡ fieldAt (first + i) .width) × (w ≤ 8)) where
-    wide : recordLength (left first i) ≡ w + recordLength (left first (i + 1))
-    wide = rw (left-turn first i fits h, length-more, width .0)
-
     -- The field is within the record.
     pub filling-room : at + w ≤ length b
-    filling-room = omega (arith, inv .place, wide)
+    filling-room = omega (arith, inv .place, left-wide first i w fits h width)
 
     pub filling-turn : (m x : ℕ) (u : List ℕ) → (m ≡ fieldAt (first + i) .meaning) × (m < 4) → x ≡ num b (at + w - w) w → u ≡ set v m x
         → Filling first b u (at + w) (i + 1)
@@ -175,7 +180,7 @@ module _ (first : ℕ) (b v : List ℕ) (at i : ℕ) (inv : Filling first b v at
         let place : at + w - w ≡ at = omega arith in
         let e : x ≡ unle (take w (drop at b)) = is ∙ rw place in
         let step = rw (left-turn first i fits h, filled-more, ← meaning .0, ← width .0, ← e, drop-drop) at (inv .leads) in
-        record { few = omega arith; long = rw (put, length-set) (inv .long); place = omega (arith, inv .place, wide); leads = rw put step }
+        record { few = omega arith; long = rw (put, length-set) (inv .long); place = omega (arith, inv .place, left-wide first i w fits h width); leads = rw put step }
 
   pub filling-end : 4 ≤ i → v ≡ filled (four first) b (replicate 4 0)
   unfolding filled

@@ -1,5 +1,5 @@
--- Records of each type, computed: read, written over other bytes, and refused. The numbers are a second implementation's, written from the
--- documents.
+-- Records of each type, computed: read, written over other bytes, and refused. The numbers due were computed by fixed offsets, apart from
+-- these definitions.
 use mathlib.Core.Path.{_≡_, refl}
 use mathlib.Core.List.{List, [], _∷_}
 use Prim.Native.Nat.{ℕ}

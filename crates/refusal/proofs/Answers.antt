@@ -11,7 +11,8 @@ use lib.ListN.{length, getD, take, replicate, length-take, length-append, length
 use lib.Seq.{take-append-add, take-append-le, take-take, take-at, take-suc, take-all}
 use Rattle.refusal.specs.declared.Refusal.{Refusal}
 use Rattle.refusal.specs.declared.Refusal.the-variants.{UnexpectedEof, InvalidBTreeV2Signature, InvalidBTreeV2Version, InvalidOffsetSize, InvalidLengthSize, ChecksumMismatch, InvalidNodeSize, ZeroRecordSize, TooManyRecords}
-use Rattle.refusal.specs.declared.Refusal.the-variants.{LevelHoldsNone, SubtreeTooThin, RecordBufferLength, CountAboveLengthSize, AddressAboveOffsetSize, OutputTooShort, DepthAboveLimit, InvalidKeyField, BaseBeyondFile, UnknownRecordType, RecordTypeMismatch}
+use Rattle.refusal.specs.declared.Refusal.the-variants.{LevelHoldsNone, SubtreeTooThin, RecordBufferLength, CountAboveLengthSize, AddressAboveOffsetSize, OutputTooShort, DepthAboveLimit}
+use Rattle.refusal.specs.declared.Refusal.the-variants.{InvalidKeyField, BaseBeyondFile, UnknownRecordType, RecordTypeMismatch}
 use Rattle.refusal.specs.declared.Verdict.{Verdict}
 use Rattle.refusal.specs.declared.Verdict.the-variants.{Accepted, Refused}
 

@@ -5,7 +5,8 @@ use mathlib.Core.Bool.{Bool, true, false}
 use lib.ListN.{take, replicate}
 use Rattle.refusal.specs.declared.Refusal.{Refusal}
 use Rattle.refusal.specs.declared.Refusal.the-variants.{UnexpectedEof, InvalidBTreeV2Signature, InvalidBTreeV2Version, InvalidOffsetSize, InvalidLengthSize, ChecksumMismatch, InvalidNodeSize, ZeroRecordSize, TooManyRecords}
-use Rattle.refusal.specs.declared.Refusal.the-variants.{LevelHoldsNone, SubtreeTooThin, RecordBufferLength, CountAboveLengthSize, AddressAboveOffsetSize, OutputTooShort, DepthAboveLimit, InvalidKeyField, BaseBeyondFile, UnknownRecordType, RecordTypeMismatch}
+use Rattle.refusal.specs.declared.Refusal.the-variants.{LevelHoldsNone, SubtreeTooThin, RecordBufferLength, CountAboveLengthSize, AddressAboveOffsetSize, OutputTooShort, DepthAboveLimit}
+use Rattle.refusal.specs.declared.Refusal.the-variants.{InvalidKeyField, BaseBeyondFile, UnknownRecordType, RecordTypeMismatch}
 use Rattle.refusal.specs.declared.Verdict.{Verdict}
 use Rattle.refusal.specs.declared.Verdict.the-variants as verdict
 use Rattle.refusal.specs.declared.PutAnswer.{PutAnswer}
