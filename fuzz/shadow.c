@@ -149,7 +149,7 @@ static bool leaf_passes(struct walk *w, uint64_t address, uint16_t count) {
     uint64_t bytes = (uint64_t)count * w->t.record_size;
     if (!there(address + 6, bytes, w->s.length, w->answer)) return false;
     size_t end = address + 6 + bytes;
-    return w->s.length - end < 4 || summed(w->s, address, end, w->answer);
+    return there(end, 4, w->s.length, w->answer) && summed(w->s, address, end, w->answer);
 }
 
 static bool leaf(struct walk *w, uint64_t address, uint16_t count) {

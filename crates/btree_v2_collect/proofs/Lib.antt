@@ -1,6 +1,7 @@
 -- The laws that the crate's proofs cite.
 mod Calls
 pub mod Bases
+pub mod Changed
 mod Holding
 mod Putting
 mod Steps

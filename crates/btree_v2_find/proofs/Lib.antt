@@ -3,6 +3,7 @@ mod Searching
 mod Descending
 mod Calls
 pub mod Bases
+pub mod Changed
 pub mod Keys
 pub mod Nodes
 pub mod Sorted

@@ -1,9 +1,9 @@
 -- Trials: what the definitions of finding say of small lists, of a small tree and before the root, computed.
 use mathlib.Core.Path.{_≡_, refl}
 use mathlib.Core.Bool.{true, false}
-use mathlib.Core.List.{List, [], _∷_}
+use mathlib.Core.List.{List, [], _∷_, _++_}
 use Prim.Native.Nat.{ℕ, _-_, _^_}
-use lib.ListN.{getD}
+use lib.ListN.{getD, replicate}
 use Rattle.refusal.specs.Answer.{accepted, refused, cells}
 use Rattle.numbers.specs.Numbers.{unle, num, leastFrom, width}
 use Rattle.node_info.specs.declared.Geometry.{Geometry}
@@ -11,11 +11,14 @@ use Rattle.node_info.specs.Capacity.{leafCapacity, countWidth, totalWidth}
 use Rattle.field.specs.declared.Field.{Field}
 use Rattle.field.specs.Field.{numberField, numberAt}
 use Rattle.read_checks.specs.Base.{onPart}
-use Rattle.read_checks.specs.Tests.{rootTest}
+use Rattle.format.specs.Bytes.{leafSignature}
+use Rattle.read_checks.specs.Tests.{rootTest, frontTest, same}
 use Rattle.btree_v2_header.specs.Header.{withBase}
 use Rattle.btree_v2_header.specs.declared.BTreeV2Header.{BTreeV2Header}
 use Rattle.btree_v2_internal.specs.Internal.{pointerPlace, childAddress, childRecords}
+use Rattle.btree_v2_leaf.specs.Leaf.{leafBody, leafTest}
 use Rattle.btree_v2_collect.specs.Walk.{Tests}
+use Rattle.btree_v2_collect.specs.Collect.{collectTests}
 use Rattle.btree_v2_find.specs.Find.{boundFrom, lastWith, Descent, ended, bound, bounding, descent, keyTest, descended, placeFound, findCells, foundAt}
 use Rattle.btree_v2_find.specs.Refusals.{NodeAt, nodesOn}
 use Rattle.btree_v2_find.proofs.Keys.{firstWith}
@@ -109,3 +112,12 @@ with-base : (foundAt (9 ∷ file) (withBase 31 (header 0 0 33)) (field 0 9) 5 �
     × (foundAt [] (withBase 1 (header 0 1 0)) (field 0 1) 5 ≡ 18 ∷ 0 ∷ 0 ∷ 0 ∷ 0 ∷ 0 ∷ [])
 unfolding foundAt onPart findCells cells placeFound lastWith descended rootTest
 with-base = (refl, refl, refl, refl)
+
+-- A leaf of one record, 7, whose file ends within its checksum: refused by 1 with the end of that, whatever is sought, with a base too.
+abbrev cut : ℕ → List ℕ
+cut k = leafSignature ++ (0 ∷ 5 ∷ 7 ∷ replicate k 0)
+
+short-leaf : (foundAt (cut 3) (header 1 1 0) (field 0 1) 7 ≡ 1 ∷ 11 ∷ 10 ∷ 0 ∷ 0 ∷ 0 ∷ []) × (foundAt (cut 0) (header 1 1 0) (field 0 1) 7 ≡ 1 ∷ 11 ∷ 7 ∷ 0 ∷ 0 ∷ 0 ∷ [])
+    × (foundAt (9 ∷ cut 3) (withBase 1 (header 1 1 0)) (field 0 1) 8 ≡ 1 ∷ 11 ∷ 10 ∷ 0 ∷ 0 ∷ 0 ∷ [])
+unfolding foundAt onPart findCells cells placeFound lastWith descended rootTest keyTest numberField descent collectTests leafTest leafBody frontTest same
+short-leaf = (refl, refl, refl)

@@ -6,7 +6,7 @@ use native.Mathlib.Omega.{arith}
 use lib.ListN.{length}
 use mir.Syntax.{w64}
 use mir.Val.{Fits}
-use borrow.Author.Tests.{le-leb, lt-leb}
+use borrow.Author.Tests.{le-leb}
 use Rattle.refusal.specs.declared.Refusal.{Refusal}
 use Rattle.refusal.specs.Answer.{accepted, verdictOf}
 use Rattle.format.specs.Bytes.{leafSignature, recordsEnd}
@@ -15,7 +15,7 @@ use Rattle.btree_v2_leaf.specs.Leaf.{leafBody, leafTest}
 use Rattle.btree_v2_leaf.proofs.Records as records
 use Rattle.refusal.specs.declared.Verdict.{Verdict}
 use Rattle.refusal.specs.declared.Verdict.the-variants.{Accepted, Refused}
-use Rattle.read_checks.proofs.Checks.{bytes-missing, first-refuses, first-accepts}
+use Rattle.read_checks.proofs.Checks.{bytes-there, bytes-missing, first-refuses, first-accepts}
 
 module _ (file : List ℕ) (k a n : ℕ) where
   -- `check_leaf`: the front, and the body where the front is accepted.
@@ -38,14 +38,14 @@ module _ (file : List ℕ) (k a n : ℕ) where
   pub records-fit : length file < 2 ^ 64 → a + recordsEnd k n ≤ length file → Fits w64 (a + recordsEnd k n)
   records-fit h there = omega arith
 
-  pub body-unchecked : length file - (a + recordsEnd k n) < 4 → a + recordsEnd k n ≤ length file → accepted [] ≡ leafBody file k a n
-  unfolding leafBody
-  body-unchecked h there = rw (le-leb _ _ there, lt-leb (a + recordsEnd k n + 4) (length file) (omega arith))
+  module _ (there : a + recordsEnd k n ≤ length file) (sum : Verdict) (code : verdictOf sum ≡ needs (a + recordsEnd k n + 4) (length file) (accepted [])) where
+    pub body-cut : (q : Refusal) → sum ≡ Refused q → verdictOf sum ≡ leafBody file k a n
+    unfolding leafBody
+    body-cut q e = rw (le-leb _ _ there, e) (sym (bytes-missing (a + recordsEnd k n + 4) (length file) sum code q e _))
 
-  pub body-checked : (sum : Verdict) → verdictOf sum ≡ checksumTest file a (a + recordsEnd k n) (accepted [])
-      → 4 ≤ length file - (a + recordsEnd k n) → a + recordsEnd k n ≤ length file → verdictOf sum ≡ leafBody file k a n
-  unfolding leafBody
-  body-checked sum e h there = rw (le-leb _ _ there, le-leb (a + recordsEnd k n + 4) (length file) (omega arith)) e
+    pub body-checked : sum ≡ Accepted → (last : Verdict) → verdictOf last ≡ checksumTest file a (a + recordsEnd k n) (accepted []) → verdictOf last ≡ leafBody file k a n
+    unfolding leafBody
+    body-checked e last rest = rw (le-leb _ _ there, le-leb _ _ (bytes-there (a + recordsEnd k n + 4) (length file) sum code e)) rest
 
   -- A leaf that passes has its records.
   pub leaf-there : (v : Verdict) → verdictOf v ≡ leafTest file k a n → v ≡ Accepted → a + 6 + n * k ≤ length file

@@ -1,3 +1,4 @@
 -- The laws of a leaf's tests, which serve the collector too.
+pub mod Checksums
 pub mod Leaves
 pub mod Records

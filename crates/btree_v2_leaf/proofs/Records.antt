@@ -8,7 +8,7 @@ use lib.ListN.{length}
 use Rattle.refusal.specs.Answer.{accepted}
 use Rattle.format.specs.Bytes.{leafSignature, recordsEnd}
 use Rattle.read_checks.specs.Tests.{frontTest}
-use Rattle.read_checks.proofs.Plain.{Plain, accepts, refuses, plain-or, plain-on, front-plain, checksum-plain}
+use Rattle.read_checks.proofs.Plain.{Plain, refuses, plain-or, plain-on, front-plain, checksum-plain}
 use Rattle.btree_v2_leaf.specs.Leaf.{leafBody, leafTest}
 use Rattle.read_checks.proofs.Passing.{passed-both, there}
 
@@ -24,4 +24,4 @@ module _ (file : List ℕ) (rs a n : ℕ) where
   leaf-plain =
       plain-on (frontTest file leafSignature a) (front-plain file leafSignature a)
       (plain-or (leb (a + recordsEnd rs n) (length file)) (refuses 1 (omega arith))
-      (plain-or (leb (a + recordsEnd rs n + 4) (length file)) accepts (checksum-plain file a (a + recordsEnd rs n))))
+      (plain-or (leb (a + recordsEnd rs n + 4) (length file)) (refuses 1 (omega arith)) (checksum-plain file a (a + recordsEnd rs n))))

@@ -16,7 +16,7 @@ pub fn check_leaf(file: &[u8], address: u64, count: u16, record_size: u16) -> Ve
     check_body(file, address, count, record_size)
 }
 
-// The tests after those of the front: the records are there, and the checksum is right where its 4 bytes are there.
+// The tests after those of the front: the records are there, the 4 bytes of the checksum are, and the checksum is right.
 pub fn check_body(file: &[u8], address: u64, count: u16, record_size: u16) -> Verdict
     ensures { λ r. ⌜ verdictOf r ≡ leafBody (now (file .entry)) «record_size» address count ⌝ }
 {
@@ -25,9 +25,10 @@ pub fn check_body(file: &[u8], address: u64, count: u16, record_size: u16) -> Ve
     let Verdict::Accepted = records else {
         return records;
     };
-    let end = (address + size) as usize;
-    if file.len() - end < 4 {
-        return Verdict::Accepted;
-    }
-    read_checks::check_checksum(file, address as usize, end)
+    let end = address + size;
+    let sum = read_checks::ensure_len(file, end, 4);
+    let Verdict::Accepted = sum else {
+        return sum;
+    };
+    read_checks::check_checksum(file, address as usize, end as usize)
 }

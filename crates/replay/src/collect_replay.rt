@@ -23,8 +23,8 @@ fn numbers(collected: Collected) -> [u64; 7]
 }
 
 // Whether collecting the tree of a row from this file has its seven numbers and leaves the bytes that are due in the output.
-fn leaves(list: &[u64; 846], row: usize, file: &[u8], output: &mut [u8], due: &[u8]) -> bool
-    requires { ⌜ row < 47 ⌝ }
+fn leaves(list: &[u64; 972], row: usize, file: &[u8], output: &mut [u8], due: &[u8]) -> bool
+    requires { ⌜ row < 54 ⌝ }
 {
     let at = 18 * row;
     let collected = collect::collect_btree_v2_records(file, rows::header(list, at + 1), output);
@@ -37,14 +37,14 @@ fn leaves(list: &[u64; 846], row: usize, file: &[u8], output: &mut [u8], due: &[
 
 // The same for the stored bytes: those from `at` to `middle` are the file, those from there to `end` are due in the output.
 fn agrees(
-    list: &[u64; 846],
+    list: &[u64; 972],
     row: usize,
-    bytes: &[u8; 5811],
+    bytes: &[u8; 6052],
     at: usize,
     middle: usize,
     end: usize,
 ) -> bool
-    requires { ⌜ (row < 47) × (at ≤ middle) × (middle ≤ end) × (end ≤ 5811) × (end ≤ middle + 512) ⌝ }
+    requires { ⌜ (row < 54) × (at ≤ middle) × (middle ≤ end) × (end ≤ 6052) × (end ≤ middle + 512) ⌝ }
 {
     let mut output = [MARK; 512];
     let n = end - middle;
@@ -60,15 +60,15 @@ fn agrees(
 
 // The stored answers.
 pub(crate) fn stored() -> Tally
-    ensures { λ r. ⌜ r .agreed + r .differed ≡ 47 ⌝ }
+    ensures { λ r. ⌜ r .agreed + r .differed ≡ 54 ⌝ }
 {
     let list = COLLECT_ROWS;
     let bytes = COLLECT_BYTES;
     let mut tally = Tally::new();
     let mut at = 0;
-    for row in 0..47 {
-        let middle = rows::end(at, 5811, 1024, list[18 * row]);
-        let end = rows::end(middle, 5811, 512, list[18 * row + 10]);
+    for row in 0..54 {
+        let middle = rows::end(at, 6052, 1024, list[18 * row]);
+        let end = rows::end(middle, 6052, 512, list[18 * row + 10]);
         tally = tally.with(agrees(&list, row, &bytes, at, middle, end));
         at = end;
     }
@@ -100,14 +100,14 @@ fn leaf(file: &[u8], due: [u64; 7], record: &[u8]) -> bool {
     check::same(&output, record)
 }
 
-// A leaf whose file ends 3 bytes after its records is accepted unchecked; a byte more, and its checksum differs.
+// A leaf whose file ends 3 bytes after its records ends early; with a byte more, its checksum differs.
 pub(crate) fn ends() -> Tally
     ensures { λ r. ⌜ r .agreed + r .differed ≡ 2 ⌝ }
 {
     let short = leaf(
         b"BTLF\x00\x05record 0\xff\xff\xff",
-        [0, 0, 0, 1, 1, 0, 0],
-        b"record 0",
+        [1, 18, 17, 0, 0, 0, 0],
+        b"\xee\xee\xee\xee\xee\xee\xee\xee",
     );
     let whole = leaf(
         b"BTLF\x00\x05record 0\xff\xff\xff\xff",

@@ -8,8 +8,8 @@ use crate::rows::MARK;
 use crate::tally::Tally;
 
 // Whether the look of a row, in this file, has its three numbers and leaves the bytes that are due in the output.
-fn leaves(list: &[u64; 350], row: usize, file: &[u8], output: &mut [u8], due: &[u8]) -> bool
-    requires { ⌜ row < 35 ⌝ }
+fn leaves(list: &[u64; 400], row: usize, file: &[u8], output: &mut [u8], due: &[u8]) -> bool
+    requires { ⌜ row < 40 ⌝ }
 {
     let at = 10 * row;
     let count = rows::number16(list[at + 3]);
@@ -32,14 +32,14 @@ fn leaves(list: &[u64; 350], row: usize, file: &[u8], output: &mut [u8], due: &[
 
 // The same for the stored bytes: those from `at` to `middle` are the file, those from there to `end` are due in the output.
 fn agrees(
-    list: &[u64; 350],
+    list: &[u64; 400],
     row: usize,
-    bytes: &[u8; 1055],
+    bytes: &[u8; 1162],
     at: usize,
     middle: usize,
     end: usize,
 ) -> bool
-    requires { ⌜ (row < 35) × (at ≤ middle) × (middle ≤ end) × (end ≤ 1055) × (end ≤ middle + 16) ⌝ }
+    requires { ⌜ (row < 40) × (at ≤ middle) × (middle ≤ end) × (end ≤ 1162) × (end ≤ middle + 16) ⌝ }
 {
     let mut output = [MARK; 16];
     let n = end - middle;
@@ -55,15 +55,15 @@ fn agrees(
 
 // The stored answers.
 pub(crate) fn stored() -> Tally
-    ensures { λ r. ⌜ r .agreed + r .differed ≡ 35 ⌝ }
+    ensures { λ r. ⌜ r .agreed + r .differed ≡ 40 ⌝ }
 {
     let list = LOOK_ROWS;
     let bytes = LOOK_BYTES;
     let mut tally = Tally::new();
     let mut at = 0;
-    for row in 0..35 {
-        let middle = rows::end(at, 1055, 64, list[10 * row]);
-        let end = rows::end(middle, 1055, 16, list[10 * row + 6]);
+    for row in 0..40 {
+        let middle = rows::end(at, 1162, 64, list[10 * row]);
+        let end = rows::end(middle, 1162, 16, list[10 * row + 6]);
         tally = tally.with(agrees(&list, row, &bytes, at, middle, end));
         at = end;
     }

@@ -1,6 +1,6 @@
 -- The definitions computed on small trees and files, beside the answers due. Bytes, headers read, records collected and the reading calls'
 -- refusals 1 to 6 with their figures are what the Rust gave for the same input; counts, what a refused collecting leaves, and a write's
--- refusals and 8, 15 and 16 are document 01's, 18 is document 02's.
+-- refusals and 8, 15 and 16 are document 01's, 18 and the refusal of a leaf without its checksum are document 02's.
 use mathlib.Core.Path.{_≡_, refl}
 use mathlib.Core.List.{List, [], _∷_, _++_, reverse}
 use Prim.Native.Nat.{ℕ, zero, suc, _+_, _-_, _*_, _%_}
@@ -23,6 +23,7 @@ use Rattle.btree_v2_header.specs.declared.BTreeV2Header.{BTreeV2Header}
 use Rattle.read_checks.specs.Base.{onPart}
 use Rattle.btree_v2_header.specs.Header.{headerAt, withBase, parsed, parsedAt}
 use Rattle.btree_v2_leaf.specs.Leaf.{leafBody, leafTest}
+use Rattle.btree_v2_leaf_view.specs.Look.{lookTest, lookBytes, recordOf, recordAnswer, recordExit, recordAnswerAt, recordExitAt}
 use Rattle.btree_v2_collect.specs.Collect.{collectTests, collected, collectedAt, runCells, runOutput}
 
 -- w bytes as a hexadecimal number shows them, and nodes of w bytes one after another.
@@ -86,6 +87,14 @@ collecting file h n answer k = ending (collected file h (lent n)) n answer k
 
 collectingAt : List ℕ → ℕ → BTreeV2Header → ℕ → List ℕ → ℕ → Trial
 collectingAt file base h n answer k = ending (collectedAt file (withBase base h) (lent n)) n answer k
+
+-- A look at record 0 of a leaf at 0 with n records of 8 bytes, into an output of as many, of which the first k are then the record.
+looking : List ℕ → ℕ → ℕ → List ℕ → ℕ → Trial
+looking file base n answer k =
+    record {
+      found = cells 3 (recordAnswerAt file base 8 0 n 0 (lent 8)) ++ recordExitAt file base 8 0 n 0 (lent 8);
+      due = answer ++ (ramp k ++ lent (8 - k));
+    }
 
 request : ℕ → ℕ → ℕ → ℕ → ℕ → ℕ → ℕ → Request
 request treeType n rs ns ow lw start =
@@ -228,13 +237,18 @@ collects =
     ∷ collecting eightFile (header 40 8 8 33 285 1 8) 64 (16 ∷ 33 ∷ 0 ∷ none) 0
     ∷ collecting [] (header 40 0 8 33 285 0 8) 64 (0 ∷ 0 ∷ 0 ∷ none) 0
     ∷ collecting [] (header 40 0 8 33 285 1 0) 64 (0 ∷ 0 ∷ 0 ∷ none) 0
-    ∷ leaf (take 33 threeImage) (0 ∷ 0 ∷ 0 ∷ 3 ∷ 1 ∷ 0 ∷ 0 ∷ []) 24
-    ∷ leaf (set (take 33 threeImage) 32 0) (0 ∷ 0 ∷ 0 ∷ 3 ∷ 1 ∷ 0 ∷ 0 ∷ []) 24
+    ∷ leaf (take 34 threeImage) (0 ∷ 0 ∷ 0 ∷ 3 ∷ 1 ∷ 0 ∷ 0 ∷ []) 24
+    ∷ leaf (take 33 threeImage) (1 ∷ 34 ∷ 33 ∷ none) 0
+    ∷ leaf (set (take 33 threeImage) 32 0) (1 ∷ 34 ∷ 33 ∷ none) 0
+    ∷ leaf (take 30 threeImage) (1 ∷ 34 ∷ 30 ∷ none) 0
     ∷ leaf (set (take 34 threeImage) 33 0) (6 ∷ 15263223 ∷ 4226344439 ∷ none) 0
     ∷ leaf (take 29 threeImage) (1 ∷ 30 ∷ 29 ∷ none) 0
     ∷ leaf (take 5 threeImage) (1 ∷ 6 ∷ 5 ∷ none) 0
-    ∷ collecting (dump 36 0x4254494e00005511000200011d000100ff42544c4600000b309294cc3042544c4600007a) (header 70000 1 2 1 0 1 9) 6
-    (0 ∷ 0 ∷ 0 ∷ 4 ∷ 2 ∷ 1 ∷ 1 ∷ []) 4
+    ∷ pair lastOfOne (0 ∷ 0 ∷ 0 ∷ 4 ∷ 2 ∷ 1 ∷ 1 ∷ []) 4
+    ∷ pair (take 36 lastOfOne) (1 ∷ 40 ∷ 36 ∷ 3 ∷ 1 ∷ 1 ∷ 1 ∷ []) 3
+    ∷ pair lastOfNone (0 ∷ 0 ∷ 0 ∷ 3 ∷ 2 ∷ 1 ∷ 1 ∷ []) 3
+    ∷ pair (take 38 lastOfNone) (1 ∷ 39 ∷ 38 ∷ 3 ∷ 1 ∷ 1 ∷ 1 ∷ []) 3
+    ∷ pair (take 35 lastOfNone) (1 ∷ 39 ∷ 35 ∷ 3 ∷ 1 ∷ 1 ∷ 1 ∷ []) 3
     ∷ []
   where
     none : List ℕ
@@ -245,6 +259,16 @@ collects =
 
     leaf : List ℕ → List ℕ → ℕ → Trial
     leaf file answer k = collecting file (header 40 8 3 0 0 3 3) 25 answer k
+
+    -- A root and two leaves, counts in three bytes: the last leaf, which ends the file, has one record or none.
+    lastOfOne : List ℕ
+    lastOfOne = dump 40 0x4254494e00005511000200011d000100ff42544c4600000b309294cc3042544c4600007aec65447c
+
+    lastOfNone : List ℕ
+    lastOfNone = dump 39 0x4254494e00005511000200011d000000ff42544c4600000b309294cc3042544c460000395c5443
+
+    pair : List ℕ → List ℕ → ℕ → Trial
+    pair file answer k = collecting file (header 70000 1 2 1 0 1 9) 6 answer k
 
 -- Behind a block of 100 bytes: the figures of 1 are those of the part behind it, and 18 comes before all else.
 behind : List Trial
@@ -258,6 +282,7 @@ behind =
     ∷ collectingAt (lent 100 ++ eightFile) 100 (header 40 8 8 2 285 1 8) 67 (0 ∷ 0 ∷ 0 ∷ 8 ∷ 4 ∷ 3 ∷ 3 ∷ []) 64
     ∷ collectingAt (lent 100 ++ take 290 eightFile) 100 (header 40 8 8 2 285 1 8) 64 (1 ∷ 291 ∷ 290 ∷ none) 0
     ∷ collectingAt (lent 100 ++ take 298 eightFile) 100 (header 40 8 8 2 285 1 8) 64 (1 ∷ 14 ∷ 13 ∷ none) 0
+    ∷ collectingAt (lent 100 ++ take 33 threeImage) 100 (header 40 8 3 0 0 3 3) 25 (1 ∷ 34 ∷ 33 ∷ none) 0
     ∷ collectingAt [] 0 (header 40 0 8 33 285 1 0) 64 (0 ∷ 0 ∷ 0 ∷ none) 0
     ∷ collectingAt [] 1 (header 40 0 8 33 285 1 0) 64 (18 ∷ 0 ∷ 0 ∷ none) 0
     ∷ []
@@ -268,18 +293,31 @@ behind =
     none : List ℕ
     none = 0 ∷ 0 ∷ 0 ∷ 0 ∷ []
 
+-- Looks at a leaf of three records, and at one of none: whole, without a byte of the checksum, and without any.
+looks : List Trial
+looks =
+    looking (take 34 threeImage) 0 3 (0 ∷ 8 ∷ 0 ∷ []) 8
+    ∷ looking (take 33 threeImage) 0 3 (1 ∷ 34 ∷ 33 ∷ []) 0
+    ∷ looking (take 30 threeImage) 0 3 (1 ∷ 34 ∷ 30 ∷ []) 0
+    ∷ looking (lent 100 ++ take 30 threeImage) 100 3 (1 ∷ 34 ∷ 30 ∷ []) 0
+    ∷ looking noneImage 0 0 (0 ∷ 0 ∷ 0 ∷ []) 0
+    ∷ looking (take 9 noneImage) 0 0 (1 ∷ 10 ∷ 9 ∷ []) 0
+    ∷ looking (take 6 noneImage) 0 0 (1 ∷ 10 ∷ 6 ∷ []) 0
+    ∷ []
+
 -- The numbers of the trials that disagree.
 disagreeing : ℕ → List Trial → List ℕ
 disagreeing i [] = []
 disagreeing i (t ∷ ts) = let rest = disagreeing (i + 1) ts in pick (same (t .found) (t .due)) rest (i ∷ rest)
 
-agree : disagreeing 0 (writes ++ (reads ++ (collects ++ behind))) ≡ []
+agree : disagreeing 0 (writes ++ (reads ++ (collects ++ (behind ++ looks)))) ≡ []
 unfolding computed rootTest le unle num leastFrom width fieldSize stored cells leafCapacity countWidth internalCapacity subtreeCapacity
     totalWidth nodeCapacity sumKids between count size below nodes leaves taken distributed children kidsOf planTree anyOf thin
     leastLevel planDepth emptyLevel planned planFigures planAnswer summed padded pointerBytes address recordRange leafBytes pointer pointers ownRecords internalBytes
     kidsImage image headerBytes over nodesOf imageOf rootOf rootRecordsOf headerOf writeAnswer written headerExit imageExit putRecord
     putRecords pointerPlace childAddress childRecords leafRun childRun ownRecordRun childrenRun nodeRun same frontTest checksumTest headerAt
     parsed leafBody leafTest internalBody internalTest collectTests collected runCells dump dumps rampFrom ramp lent writing summing refusing reading
-    collecting onPart parsedAt collectedAt readingAt ending collectingAt behind request header threeHeader threeImage fourHeader fourImage eightHeader eightImage eightFile twoHeader twoImage noneHeader
+    collecting onPart parsedAt collectedAt readingAt ending collectingAt behind lookTest lookBytes recordOf recordAnswer recordExit
+    recordAnswerAt recordExitAt looking looks request header threeHeader threeImage fourHeader fourImage eightHeader eightImage eightFile twoHeader twoImage noneHeader
     noneImage writes reads collects disagreeing
 agree = refl

@@ -1,5 +1,5 @@
--- `check_body` tests the records, then the checksum.
-use Rattle.btree_v2_leaf.proofs.Leaves.{records-fit, body-short, body-unchecked, body-checked}
+-- `check_body` tests the records, the checksum's bytes, then the checksum.
+use Rattle.btree_v2_leaf.proofs.Leaves.{records-fit, body-short, body-cut, body-checked}
 use Rattle.read_checks.proofs.Checks.{bytes-there}
 use Rattle.read_checks.proofs.Nodes.{product-fits, records-end-fits}
 use borrow.Author.Needs.{needs}
@@ -15,7 +15,7 @@ check-body-spec =
     (λ c κs. search needs) (λ c. search needs) (λ c. search needs)
     (λ c. search body-short)
     (λ c. search (records-fit, bytes-there))
-    (λ c. search bytes-there)
-    (λ c. search (body-unchecked, bytes-there))
+    (λ c κs. search needs) (λ c. search needs) (λ c. search needs)
+    (λ c. body-cut _ _ _ _ (search bytes-there) _ (c .before .before .ensure-len2 .ensures) _ (c .enum-told4 .given .1))
     (λ c κs. search needs)
     (λ c. search (body-checked, bytes-there)))

@@ -1,6 +1,6 @@
 //! Calls that take a base, and the faults that each of their suites has to notice.
 
-use super::case::{refuse, take, Case, Fault};
+use super::case::{refuse, take, Case, Fault, WITHIN_LEAF_CHECKSUM};
 use crate::inputs::Tree;
 use crate::model::LEVEL_LIMIT;
 
@@ -62,6 +62,34 @@ pub fn faults<C: Based>() -> Vec<Fault<C>> {
             let numbers = answer.as_mut();
             if numbers[0] == 1 {
                 numbers[2] += case.base();
+            }
+        }),
+    ]
+}
+
+/// Those of every call that tests leaves, where a file ends within a leaf's checksum.
+pub fn faults_of_leaves<C: Based>() -> Vec<Fault<C>> {
+    fn within<C: Case>(case: &C, answer: &C::Answer) -> bool {
+        case.outcome(answer) == Some(WITHIN_LEAF_CHECKSUM)
+    }
+    vec![
+        Fault::<C>::model_alone(
+            "a leaf without its checksum accepted",
+            |case, answer, lent| {
+                if within(case, answer) {
+                    refuse(case, [0, 0, 0], answer, lent);
+                }
+            },
+        ),
+        Fault::<C>::model_alone("three bytes taken for a checksum", |case, answer, _| {
+            let three = answer.as_ref()[2] + 1 == answer.as_ref()[1];
+            if three && within(case, answer) {
+                answer.as_mut()[..3].copy_from_slice(&[6, 0, 0]);
+            }
+        }),
+        Fault::<C>::model_alone("an end needed without the checksum", |case, answer, _| {
+            if within(case, answer) {
+                answer.as_mut()[1] -= 4;
             }
         }),
     ]

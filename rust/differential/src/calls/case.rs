@@ -127,6 +127,15 @@ pub fn faults<C: Case>() -> Vec<(&'static str, ShownBy)> {
     faults.map(|fault| (fault.name, fault.shown_by)).collect()
 }
 
+/// What an answer comes to where the file ends within the checksum of a leaf. The Rust reads such a
+/// leaf unchecked, so it is not asked.
+pub const WITHIN_LEAF_CHECKSUM: &str = "within a leaf's checksum";
+
+/// Whether the model is refused so.
+pub fn within_leaf_checksum<T>(answer: model::Answer<T>) -> bool {
+    answer.is_err_and(|refusal| refusal.within_leaf_checksum)
+}
+
 /// Something that tells a refusal's number and values.
 pub trait Told {
     fn told(&self) -> [u64; 3];

@@ -14,6 +14,7 @@ pub mod typed;
 pub mod write;
 
 use crate::compare::{records, Family};
+use case::WITHIN_LEAF_CHECKSUM;
 pub use case::{By, Case, Fault, ShownBy};
 
 /// A call, and what its suite is made of.
@@ -134,7 +135,7 @@ pub static CALLS: &[Call] = &[
     Call {
         name: "collect",
         refusals: &[1, 2, 4, 6, 8, 15, 16, 18],
-        outcomes: &[],
+        outcomes: &[WITHIN_LEAF_CHECKSUM],
         suite: &[
             part("block-trees", collect::behind_blocks)
                 .soaks()
@@ -144,6 +145,9 @@ pub static CALLS: &[Call] = &[
             part("written-trees", collect::as_written).notices(),
             part("trees", collect::of_any_geometry).soaks(),
             part("cut-trees", collect::cut).soaks(),
+            part("leaf-ends", collect::ending_in_a_leaf)
+                .soaks()
+                .notices(),
             part("damaged-trees", collect::damaged).soaks().notices(),
             part("made-up", collect::with_made_up_headers).soaks(),
             part("graphs", collect::of_random_graphs).soaks().notices(),
@@ -155,7 +159,7 @@ pub static CALLS: &[Call] = &[
     Call {
         name: "leaf_record",
         refusals: &[1, 2, 6, 8, 15, 18],
-        outcomes: &[],
+        outcomes: &[WITHIN_LEAF_CHECKSUM],
         suite: &[
             part("block-leaves", leaf_record::behind_blocks)
                 .soaks()
@@ -177,7 +181,7 @@ pub static CALLS: &[Call] = &[
     Call {
         name: "find",
         refusals: &[1, 2, 4, 6, 8, 16, 17, 18],
-        outcomes: &["found", "not found", "empty"],
+        outcomes: &["found", "not found", "empty", WITHIN_LEAF_CHECKSUM],
         suite: &[
             part("block-keys", find::behind_blocks).soaks().notices(),
             part("key-bases", find::at_every_base),
@@ -185,6 +189,7 @@ pub static CALLS: &[Call] = &[
             part("key-fields", find::at_the_limits_of_fields).notices(),
             part("keys", find::of_any_geometry).soaks(),
             part("cut-keys", find::cut).soaks(),
+            part("key-ends", find::ending_in_a_leaf).soaks().notices(),
             part("damaged-keys", find::damaged).soaks(),
             part("made-up-keys", find::with_made_up_headers)
                 .soaks()

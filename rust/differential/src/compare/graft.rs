@@ -1,4 +1,5 @@
-//! Files whose nodes stand in any order and point at one another at random.
+//! Files whose nodes are made by hand: in any order, pointing at one another at random; and with the
+//! leaves behind all others.
 
 use super::nodes::{Form, Pointer};
 use super::{block, grid};
@@ -24,19 +25,16 @@ pub type Records = fn(&mut Random, usize) -> Vec<u8>;
 /// below, and now and then a pointer to another place or a wrong count. Some files are cut, and
 /// some have a block in front.
 pub fn grafted(records: Records, random: &mut Random) -> (Vec<u8>, Tree) {
-    let node_size = NODE_SIZES[random.up_to(4) as usize];
-    let record_size = 1 + random.up_to(6) as u16;
-    let geometry = Geometry::new(node_size, record_size, grid::field_size(random));
     let depth = match random.up_to(2) {
         0 => random.up_to(32) as u16,
         _ => random.up_to(4) as u16,
     };
-    let form = Form::new(geometry, depth);
+    let form = any_form(depth, random);
     let (nodes, length) = placed(&form, depth, random);
     let mut file = random.bytes(length);
     for node in &nodes {
-        let records = records(random, node.records * usize::from(record_size));
-        let mut bytes = filled(&form, *node, &records, &nodes, length, random);
+        let pointers = pointers(*node, &nodes, length, random);
+        let mut bytes = filled(&form, *node, records, &pointers, random);
         if random.up_to(300) == 0 {
             let at = random.up_to(bytes.len() as u64 - 1) as usize;
             bytes[at] ^= 1 << random.up_to(7);
@@ -46,20 +44,70 @@ pub fn grafted(records: Records, random: &mut Random) -> (Vec<u8>, Tree) {
     if random.up_to(2) == 0 {
         file.truncate(any_end(&form, &nodes, random));
     }
-    let root = nodes[nodes.len() - 1];
-    let mut tree = Tree {
-        tree_type: 5,
-        geometry,
-        depth,
-        root_address: root.address as u64,
-        root_records: root.records as u16,
-        total_records: random.number() | 1,
-        base: 0,
-    };
+    let mut tree = tree_under(&form, nodes[nodes.len() - 1], random);
     if random.up_to(3) == 0 {
         block::put_in_front(&mut file, &mut tree, random);
     }
     (file, tree)
+}
+
+/// A file that ends with a leaf, and a tree in it of depth 0 to 3: the root, then level by level one
+/// to three nodes. The last pointer of each node leads to the last node of the level below, so that
+/// the last leaf is reached behind all others.
+pub fn ending_in_a_leaf(records: Records, random: &mut Random) -> (Vec<u8>, Tree) {
+    let depth = random.up_to(3) as u16;
+    let form = any_form(depth, random);
+    let mut nodes: Vec<Node> = Vec::new();
+    let mut length = 0;
+    for level in (0..=depth).rev() {
+        let others = match level == depth {
+            true => 0,
+            false => random.up_to(2),
+        };
+        for _ in 0..=others {
+            // A root without records would not be read.
+            let least = u64::from(level == depth);
+            let node = Node {
+                level,
+                records: (least + random.up_to(2)) as usize,
+                address: length + random.up_to(2) as usize,
+            };
+            length = node.address + form.length(level, node.records);
+            nodes.push(node);
+        }
+    }
+    let mut file = random.bytes(length);
+    for node in &nodes {
+        let mut pointers = pointers(*node, &nodes, length, random);
+        if let (Some(last), Some(child)) = (pointers.last_mut(), below(*node, &nodes).last()) {
+            *last = exact(*child, random);
+        }
+        let bytes = filled(&form, *node, records, &pointers, random);
+        file[node.address..node.address + bytes.len()].copy_from_slice(&bytes);
+    }
+    let tree = tree_under(&form, nodes[0], random);
+    (file, tree)
+}
+
+/// Nodes of any form, for trees of a depth.
+fn any_form(depth: u16, random: &mut Random) -> Form {
+    let node_size = NODE_SIZES[random.up_to(4) as usize];
+    let record_size = 1 + random.up_to(6) as u16;
+    let geometry = Geometry::new(node_size, record_size, grid::field_size(random));
+    Form::new(geometry, depth)
+}
+
+/// The tree under a root, with any number of records in all.
+fn tree_under(form: &Form, root: Node, random: &mut Random) -> Tree {
+    Tree {
+        tree_type: 5,
+        geometry: form.geometry,
+        depth: root.level,
+        root_address: root.address as u64,
+        root_records: root.records as u16,
+        total_records: random.number() | 1,
+        base: 0,
+    }
 }
 
 /// The nodes, the root last, with places in any order, and the length of the file.
@@ -92,39 +140,51 @@ fn placed(form: &Form, depth: u16, random: &mut Random) -> (Vec<Node>, usize) {
     (nodes, length)
 }
 
-/// The bytes of a node: its records, and pointers to nodes of the level below.
+/// The bytes of a node.
 fn filled(
     form: &Form,
     node: Node,
-    records: &[u8],
-    nodes: &[Node],
-    length: usize,
+    records: Records,
+    pointers: &[Pointer],
     random: &mut Random,
 ) -> Vec<u8> {
-    if node.level == 0 {
-        return form.leaf(records);
+    let size = usize::from(form.geometry.record_size);
+    let records = records(random, node.records * size);
+    match node.level {
+        0 => form.leaf(&records),
+        level => form.internal(level, &records, pointers),
     }
-    let below: Vec<Node> = nodes
-        .iter()
-        .filter(|other| other.level == node.level - 1)
-        .copied()
-        .collect();
-    let pointers: Vec<Pointer> = (0..=node.records)
-        .map(|_| {
-            let child = below[random.up_to(below.len() as u64 - 1) as usize];
-            pointer(child, length, random)
-        })
-        .collect();
-    form.internal(node.level, records, &pointers)
 }
 
-/// A pointer, rarely a wrong one. What stands in a count's field above 16 bits is any.
-fn pointer(child: Node, length: usize, random: &mut Random) -> Pointer {
-    let mut pointer = Pointer {
+/// The nodes of the level below a node's; none below a leaf.
+fn below(node: Node, nodes: &[Node]) -> Vec<Node> {
+    let level_below = |other: &&Node| other.level + 1 == node.level;
+    nodes.iter().filter(level_below).copied().collect()
+}
+
+/// Pointers from a node to nodes of the level below; none from a leaf.
+fn pointers(node: Node, nodes: &[Node], length: usize, random: &mut Random) -> Vec<Pointer> {
+    let below = below(node, nodes);
+    let Some(last) = below.len().checked_sub(1) else {
+        return Vec::new();
+    };
+    (0..=node.records)
+        .map(|_| pointer(below[random.up_to(last as u64) as usize], length, random))
+        .collect()
+}
+
+/// The pointer to a node. What stands in a count's field above 16 bits is any.
+fn exact(child: Node, random: &mut Random) -> Pointer {
+    Pointer {
         address: child.address as u64,
         records: random.number() << 16 | child.records as u64,
         total: random.number(),
-    };
+    }
+}
+
+/// A pointer, rarely a wrong one.
+fn pointer(child: Node, length: usize, random: &mut Random) -> Pointer {
+    let mut pointer = exact(child, random);
     match random.up_to(200) {
         0 => pointer.address = u64::MAX - random.any_magnitude(u64::MAX),
         1 => pointer.address = random.up_to(length as u64),

@@ -22,22 +22,26 @@ pub fn leaf_record(file: &[u8], leaf: &Leaf, index: u64, output: &mut [u8]) -> A
     Ok(record.len() as u64)
 }
 
-/// The records of a leaf, end to end, once its checks have passed.
+/// The records of a leaf, end to end, once its checks have passed: the file reaches to their end,
+/// then to the end of the 4 checksum bytes, then the checksum agrees.
 pub fn records(file: &[u8], address: u64, count: u16, record_size: u16) -> Answer<&[u8]> {
     let part = begins(file, address, b"BTLF")?;
     let end = 6 + usize::from(count) * usize::from(record_size);
+    let end_in_file = u128::from(address) + end as u128;
     require(
         end <= part.len(),
-        refusal::file_ends_early(u128::from(address) + end as u128, file.len()),
+        refusal::file_ends_early(end_in_file, file.len()),
     )?;
-    if part.len() - end >= 4 {
-        let stored = get(&part[end..end + 4]) as u32;
-        let computed = lookup3(&part[..end]);
-        require(
-            stored == computed,
-            refusal::checksum_differs(stored, computed),
-        )?;
-    }
+    require(
+        end + 4 <= part.len(),
+        refusal::file_ends_within_leaf_checksum(end_in_file + 4, file.len()),
+    )?;
+    let stored = get(&part[end..end + 4]) as u32;
+    let computed = lookup3(&part[..end]);
+    require(
+        stored == computed,
+        refusal::checksum_differs(stored, computed),
+    )?;
     Ok(&part[6..end])
 }
 

@@ -7,6 +7,8 @@ use super::numbers::held;
 pub struct Refusal {
     pub number: u64,
     pub values: [u64; 2],
+    /// The file ends within the checksum of a leaf whose records are there.
+    pub within_leaf_checksum: bool,
 }
 
 /// Accepted figures or a refusal.
@@ -26,13 +28,26 @@ fn plain(number: u64) -> Refusal {
 }
 
 fn told(number: u64, value: impl Into<u64>) -> Refusal {
-    let values = [value.into(), 0];
-    Refusal { number, values }
+    valued(number, [value.into(), 0])
+}
+
+fn valued(number: u64, values: [u64; 2]) -> Refusal {
+    Refusal {
+        number,
+        values,
+        within_leaf_checksum: false,
+    }
 }
 
 pub fn file_ends_early(end_needed: u128, length: usize) -> Refusal {
-    let values = [held(end_needed), length as u64];
-    Refusal { number: 1, values }
+    valued(1, [held(end_needed), length as u64])
+}
+
+pub fn file_ends_within_leaf_checksum(end_needed: u128, length: usize) -> Refusal {
+    Refusal {
+        within_leaf_checksum: true,
+        ..file_ends_early(end_needed, length)
+    }
 }
 
 pub fn wrong_signature() -> Refusal {
@@ -52,8 +67,7 @@ pub fn length_size(size: u8) -> Refusal {
 }
 
 pub fn checksum_differs(stored: u32, computed: u32) -> Refusal {
-    let values = [stored.into(), computed.into()];
-    Refusal { number: 6, values }
+    valued(6, [stored.into(), computed.into()])
 }
 
 pub fn node_size(size: u32) -> Refusal {

@@ -83,9 +83,10 @@ fn cases() -> Vec<Case> {
 
 type Fault = fn(&mut Case);
 
-/// What can go wrong with a tree of 4 records (leaves at 3 and 24, root at 45) or of 8 (leaves at
-/// 3, 24, 66 and 87, internal nodes at 45 and 108, root at 129).
-const FAULTS: [(u64, Fault); 22] = [
+/// What can go wrong with a tree of 3 records (a leaf at 3, whose records end at 18), of 4 (leaves
+/// at 3 and 24, root at 45) or of 8 (leaves at 3, 24, 66 and 87, internal nodes at 45 and 108, root
+/// at 129).
+const FAULTS: [(u64, Fault); 27] = [
     (8, |case| case.output_length = 24),
     (8, |case| case.output_length = 23),
     (8, |case| case.output_length = 8),
@@ -108,11 +109,19 @@ const FAULTS: [(u64, Fault); 22] = [
     (4, |case| case.header[2] = 0),
     (4, |case| case.header[3] = 33),
     (4, |case| case.header[6] = 0),
+    (3, |_| ()),
+    (3, |case| case.file.truncate(21)),
+    (3, |case| case.file.truncate(18)),
+    (3, |case| case.file.truncate(17)),
+    (3, |case| {
+        case.file.truncate(21);
+        case.file[20] ^= 1;
+    }),
 ];
 
 /// The same behind the block, of 13 bytes: nodes stand 13 bytes later, and have the addresses that
 /// they had.
-const BEHIND_THE_BLOCK: [(u64, Fault); 20] = [
+const BEHIND_THE_BLOCK: [(u64, Fault); 22] = [
     (8, |_| ()),
     (4, |_| ()),
     (8, |case| case.output_length = 8),
@@ -135,6 +144,8 @@ const BEHIND_THE_BLOCK: [(u64, Fault); 20] = [
     (4, |case| {
         case.header = [261, 21 + (1 << 32), 65_539, 65_537, 45, 65_537, 4, 13];
     }),
+    (3, |case| case.file.truncate(13 + 21)),
+    (3, |case| case.file.truncate(13 + 18)),
 ];
 
 fn text(by: By) -> String {

@@ -51,7 +51,7 @@ fn written() -> Case {
 type Change = fn(&mut Case);
 
 /// What is changed in the look.
-const CHANGES: [Change; 19] = [
+const CHANGES: [Change; 23] = [
     |_| (),
     |case| case.index = 0,
     |case| case.index = 2,
@@ -71,10 +71,14 @@ const CHANGES: [Change; 19] = [
     |case| case.file[8] ^= 1,
     |case| case.file.truncate(20),
     |case| case.leaf.count = 0,
+    |case| case.file.truncate(17),
+    |case| case.file.truncate(16),
+    |case| (case.leaf.count, case.file) = (0, case.file[..11].to_vec()),
+    |case| (case.leaf.count, case.file) = (0, case.file[..8].to_vec()),
 ];
 
 /// What is changed in the look behind the block, of 13 bytes.
-const BEHIND_THE_BLOCK: [Change; 16] = [
+const BEHIND_THE_BLOCK: [Change; 17] = [
     |_| (),
     |case| (case.leaf.base, case.leaf.address) = (15, 0),
     |case| (case.leaf.base, case.leaf.address) = (0, 15),
@@ -85,6 +89,7 @@ const BEHIND_THE_BLOCK: [Change; 16] = [
     |case| case.file[13 + 8] ^= 1,
     |case| case.file.truncate(13 + 7),
     |case| case.file.truncate(13 + 20),
+    |case| case.file.truncate(13 + 17),
     |case| case.leaf.record_size = 0,
     |case| case.leaf.base = case.file.len() as u64,
     |case| case.leaf.base = case.file.len() as u64 + 1,

@@ -131,6 +131,51 @@ fn collecting() {
     });
 }
 
+/// A leaf whose file ends within its checksum: the Rust reads it unchecked.
+#[test]
+fn leaf_without_its_checksum() {
+    with_rust(
+        "the Rust reads a leaf without its checksum, where 1 refuses",
+        || {
+            let records = *b"record 1record 2record 3";
+            let given = zeros(&records, 3, Geometry::new(40, 8, 8));
+            let file = typed::request(&given).write_to_vec();
+            let mut file = file.expect("a leaf is written").image;
+            file[31] ^= 1;
+            let tree = Tree {
+                tree_type: 5,
+                geometry: given.geometry,
+                depth: 0,
+                root_address: 0,
+                root_records: 3,
+                total_records: 3,
+                base: 0,
+            };
+            let leaf = Leaf {
+                base: 0,
+                address: 0,
+                count: 3,
+                record_size: 8,
+            };
+            let each: Vec<Vec<u8>> = records.chunks(8).map(<[u8]>::to_vec).collect();
+            for length in 30..34 {
+                let cut = &file[..length];
+                let early = Refusal::UnexpectedEof {
+                    expected: 34,
+                    available: length as u64,
+                };
+                let refused = typed::header(&tree).collect(cut, &mut [0; 24]);
+                assert_eq!(refused.expect_err("the leaf is refused").refusal, early);
+                assert_eq!(rust::collect(cut, &tree), Ok(records.to_vec()));
+                assert_eq!(LeafView::new(cut, 0, 3, 8), Err(early));
+                assert_eq!(rust::leaf(cut, &leaf), Ok(each.clone()));
+            }
+            let whole = rust::collect(&file[..34], &tree);
+            assert_eq!(whole.map_err(|refusal| refusal[0]), Err(6));
+        },
+    );
+}
+
 /// A base beyond the file leaves no part to hand to the Rust, which has none: of the whole file it
 /// says where that ends, and of an empty tree it reads nothing.
 #[test]

@@ -129,12 +129,12 @@ fn starts_and_counts() {
     say("figures: last starts and counts");
 }
 
+/// Document 01's figure for 3 bytes after the records, which document 02 turns to refused.
 #[test]
-fn unchecked_leaf() {
-    let mut file = Form::new(G40, 0).leaf(b"record 1record 2");
-    file[22] ^= 1;
+fn leaf_without_its_checksum() {
+    let file = Form::new(G40, 0).leaf(b"record 1record 2record 3");
     let collect = |file: &[u8], output: &mut [u8]| {
-        let (root_address, root_records, total_records) = (0, 2, 2);
+        let (root_address, root_records, total_records) = (0, 3, 3);
         raw::collect(
             file,
             5,
@@ -148,16 +148,22 @@ fn unchecked_leaf() {
             output,
         )
     };
-    let mut output = [0; 16];
-    let cut = &file[..file.len() - 1];
-    assert_eq!(collect(cut, &mut output), [0, 0, 0, 2, 1, 0, 0]);
-    assert_eq!(&output, b"record 1record 2");
-    assert_eq!(collect(&file, &mut output)[0], 6);
+    let find = |file: &[u8]| raw::find(file, &[5, 40, 8, 0, 0, 3, 3], 8, 7, 1, b'2'.into());
+    let look = |file: &[u8], output: &mut [u8]| raw::leaf_record(file, 0, 3, 8, 1, output);
 
-    let look = |file: &[u8], output: &mut [u8]| raw::leaf_record(file, 0, 2, 8, 1, output);
-    let mut output = [0; 8];
-    assert_eq!(look(cut, &mut output), [0, 8, 0]);
-    assert_eq!(&output, b"record 2");
-    assert_eq!(look(&file, &mut output)[0], 6);
-    say("figures: a leaf that ends 3 bytes after its records is not checked");
+    for (length, end) in [(33, 34), (32, 34), (31, 34), (30, 34), (29, 30), (5, 6)] {
+        let (cut, length) = (&file[..length], length as u64);
+        let mut output = [7; 24];
+        assert_eq!(collect(cut, &mut output), [1, end, length, 0, 0, 0, 0]);
+        assert_eq!(look(cut, &mut output), [1, end, length]);
+        assert_eq!(output, [7; 24]);
+        assert_eq!(find(cut), [1, end, length, 0, 0, 0]);
+    }
+    let mut output = [7; 24];
+    assert_eq!(collect(&file, &mut output), [0, 0, 0, 3, 1, 0, 0]);
+    assert_eq!(&output, b"record 1record 2record 3");
+    assert_eq!(look(&file, &mut output), [0, 8, 0]);
+    assert_eq!(&output[..8], b"record 2");
+    assert_eq!(find(&file), [0, 0, 0, 1, 1, 14]);
+    say("figures: a leaf that ends 3 bytes after its records, or fewer, is refused by 1");
 }

@@ -8,10 +8,10 @@ use Rattle.replay.proofs.collect_replay.stored.Tie as tie
 
 abbrev Inv-loop : tie.InvT-loop
 Inv-loop list bytes tally₀ at₀ row₀ tally at row =
-    (row ≤ 47) × (tally .agreed + tally .differed ≡ row) × (at ≤ 5811) × (846 ≡ length list)
+    (row ≤ 54) × (tally .agreed + tally .differed ≡ row) × (at ≤ 6052) × (972 ≡ length list)
 
 abbrev μ-loop : tie.MeasureT-loop
-μ-loop list bytes tally₀ at₀ row₀ tally at row = 47 - row
+μ-loop list bytes tally₀ at₀ row₀ tally at row = 54 - row
 
 pub stored-spec : {M : Type 1} → statement M
 stored-spec =

@@ -8,10 +8,10 @@ use Rattle.replay.proofs.look_replay.stored.Tie as tie
 
 abbrev Inv-loop : tie.InvT-loop
 Inv-loop list bytes tally₀ at₀ row₀ tally at row =
-    (row ≤ 35) × (tally .agreed + tally .differed ≡ row) × (at ≤ 1055) × (350 ≡ length list)
+    (row ≤ 40) × (tally .agreed + tally .differed ≡ row) × (at ≤ 1162) × (400 ≡ length list)
 
 abbrev μ-loop : tie.MeasureT-loop
-μ-loop list bytes tally₀ at₀ row₀ tally at row = 35 - row
+μ-loop list bytes tally₀ at₀ row₀ tally at row = 40 - row
 
 pub stored-spec : {M : Type 1} → statement M
 stored-spec =

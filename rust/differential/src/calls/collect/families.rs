@@ -4,16 +4,18 @@ use super::Collecting;
 use crate::calls::based::Based;
 use crate::compare::block;
 use crate::compare::causes::{with_causes, with_high_bits};
-use crate::compare::graft::grafted;
+use crate::compare::graft::{self, grafted};
 use crate::compare::sample::{self, for_each, for_some_behind_blocks, Sample, Sizes};
 use crate::compare::{same, Comparison, Held};
 use crate::random::Random;
 
 /// The room in which the trees of small files end, or are not given to the Rust.
 const ROOM: usize = 1 << 16;
-/// Trees at any geometry, made-up headers for each small file, and random graphs of nodes.
+/// Trees at any geometry, made-up headers for each small file, files that end with a leaf, and random
+/// graphs of nodes.
 const TREES: usize = 10_000;
 const HEADERS: usize = 4_000;
+const ENDS: usize = 400;
 const GRAPHS: usize = 120_000;
 /// Images up to this long get every damage of a byte.
 const EVERY_DAMAGE: usize = 300;
@@ -51,16 +53,30 @@ pub fn of_any_geometry(to: &mut Comparison, random: &mut Random) -> Held {
     Ok(())
 }
 
-/// Every end of the file.
+/// Every end of the file, without and with a block in front.
 pub fn cut(to: &mut Comparison, random: &mut Random) -> Held {
-    for_each(to, random, |to, sample, _| {
-        let whole = of(sample, sample.records.len());
-        for length in 0..sample.file.len() {
-            let file = &sample.file[..length];
-            to.hold("cut", &Collecting { file, ..whole })?;
-        }
-        Ok(())
+    for_each(to, random, |to, sample, random| {
+        to.hold_every_end("cut", &of(sample, sample.records.len()))?;
+        sample.put_behind_a_block(random);
+        to.hold_every_end("cut behind a block", &of(sample, sample.records.len()))
     })
+}
+
+/// Every end of files whose leaves stand behind all other nodes, without and with a block in front.
+pub fn ending_in_a_leaf(to: &mut Comparison, random: &mut Random) -> Held {
+    for _ in 0..ENDS {
+        let (mut file, mut tree) = graft::ending_in_a_leaf(Random::bytes, random);
+        let output = match random.up_to(3) {
+            0 => random.up_to(60) as usize,
+            _ => 4_000,
+        };
+        let case = Collecting::of(&file, &tree, output, ROOM);
+        to.hold_every_end("ending in a leaf", &case)?;
+        block::put_in_front(&mut file, &mut tree, random);
+        let case = Collecting::of(&file, &tree, output, ROOM);
+        to.hold_every_end("ending in a leaf behind a block", &case)?;
+    }
+    Ok(())
 }
 
 /// Each byte of the nodes changed, in every way in the smallest files and in some in the others,
@@ -208,6 +224,15 @@ fn of(sample: &Sample, output_length: usize) -> Collecting<'_> {
 }
 
 impl Comparison {
+    /// Holds the collecting from every front of a file, the whole one too.
+    fn hold_every_end(&mut self, class: &'static str, whole: &Collecting) -> Held {
+        for length in 0..=whole.file.len() {
+            let file = &whole.file[..length];
+            self.hold(class, &Collecting { file, ..*whole })?;
+        }
+        Ok(())
+    }
+
     /// Holds the collecting of a whole tree to what was written, too.
     fn hold_whole(&mut self, class: &'static str, sample: &Sample) -> Held {
         let (tree, whole) = (&sample.tree, sample.records.len());

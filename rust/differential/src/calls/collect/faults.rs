@@ -7,6 +7,7 @@ use crate::calls::Fault;
 pub fn faults<'a>() -> Vec<Fault<Collecting<'a>>> {
     let mut faults = based::faults_of_trees();
     faults.extend(of_records());
+    faults.extend(based::faults_of_leaves());
     faults
 }
 

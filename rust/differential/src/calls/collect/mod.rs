@@ -8,15 +8,15 @@ use std::fmt;
 use nuldrafon::raw;
 
 use super::based::{Based, OfTree};
-use super::case::{array, Case, Fault, Told};
+use super::case::{array, within_leaf_checksum, Case, Fault, Told, WITHIN_LEAF_CHECKSUM};
 use super::typed;
 use crate::compare::bytes::{beginning, pattern, same_bytes};
 use crate::compare::{rust, same, Held};
 use crate::inputs::Tree;
 use crate::model;
 pub use families::{
-    as_written, at_every_base, behind_blocks, cut, damaged, of_any_geometry, of_many_records,
-    of_random_graphs, with_made_up_headers, with_several_causes,
+    as_written, at_every_base, behind_blocks, cut, damaged, ending_in_a_leaf, of_any_geometry,
+    of_many_records, of_random_graphs, with_made_up_headers, with_several_causes,
 };
 
 /// Files up to this long are also collected into a buffer that the crate makes.
@@ -120,13 +120,19 @@ impl Case for Collecting<'_> {
         vec![self.put_out(answer)]
     }
 
+    fn outcome(&self, answer: &Self::Answer) -> Option<&'static str> {
+        self.within_leaf_checksum(answer, self.output_length)
+            .then_some(WITHIN_LEAF_CHECKSUM)
+    }
+
     fn hold_to_rust(&self, ours: &Self::Answer, [output]: &Self::Lent) -> Option<Held> {
         let part = self.part()?;
         let whole = match ours[0] {
             15 => self.model(&mut [vec![0; self.room]]),
             _ => *ours,
         };
-        if [8, 15, 16].contains(&whole[0]) {
+        let room = self.room.max(self.output_length);
+        if [8, 15, 16].contains(&whole[0]) || self.within_leaf_checksum(&whole, room) {
             return None;
         }
         let case = || self.to_string();
@@ -197,6 +203,13 @@ impl<'a> Collecting<'a> {
 
     fn record_size(&self) -> usize {
         self.tree().geometry.record_size.into()
+    }
+
+    /// Whether an answer, into an output of this length, is that the file ends within the checksum
+    /// of a leaf.
+    fn within_leaf_checksum(&self, answer: &[u64; 7], output_length: usize) -> bool {
+        let collect = || model::collect(self.file, &self.tree(), &mut vec![0; output_length]);
+        answer[0] == 1 && within_leaf_checksum(collect().answer)
     }
 
     /// The bytes of the records that an answer says were put out.

@@ -3,7 +3,7 @@
 use super::Search;
 use crate::compare::block;
 use crate::compare::causes::{with_causes, with_high_bits};
-use crate::compare::graft::{grafted, Records};
+use crate::compare::graft::{self, grafted, Records};
 use crate::compare::keyed::{self, any_field, around, limits, Order, ORDERS};
 use crate::compare::sample::{any_sizes, small_sizes, Sample, Sizes};
 use crate::compare::{Comparison, Held};
@@ -12,10 +12,11 @@ use crate::model::key_of;
 use crate::random::Random;
 
 /// Trees at any geometry, in files without and with a block, made-up headers for each small file,
-/// and random graphs of nodes.
+/// files that end with a leaf, and random graphs of nodes.
 const TREES: usize = 8_000;
 const BLOCKS: usize = 2_000;
 const HEADERS: usize = 2_000;
+const ENDS: usize = 200;
 const GRAPHS: usize = 100_000;
 /// Images up to this long get every damage of a byte.
 const EVERY_DAMAGE: usize = 130;
@@ -187,20 +188,42 @@ pub fn of_any_geometry(to: &mut Comparison, random: &mut Random) -> Held {
     Ok(())
 }
 
-/// Every end of the file.
+/// Every end of the file, without and with a block in front.
 pub fn cut(to: &mut Comparison, random: &mut Random) -> Held {
     for_each(to, random, &[Order::Distinct], |to, keyed, random| {
-        for length in 0..keyed.sample.file.len() {
-            let file = &keyed.sample.file[..length];
-            let search = Search {
-                file,
-                ..keyed.search()
-            };
-            let keys = keyed.some(2, random);
-            to.hold_finds("cut", search, keys)?;
+        for class in ["cut", "cut behind a block"] {
+            for length in 0..=keyed.sample.file.len() {
+                let file = &keyed.sample.file[..length];
+                let search = Search {
+                    file,
+                    ..keyed.search()
+                };
+                let keys = keyed.some(2, random);
+                to.hold_finds(class, search, keys)?;
+            }
+            keyed.sample.put_behind_a_block(random);
         }
         Ok(())
     })
+}
+
+/// Every end of files whose leaves stand behind all other nodes, without and with a block in front.
+/// The largest key leads to the last leaf.
+pub fn ending_in_a_leaf(to: &mut Comparison, random: &mut Random) -> Held {
+    for _ in 0..ENDS {
+        let (mut file, mut tree) = graft::ending_in_a_leaf(Random::bytes, random);
+        let key = any_field(tree.geometry.record_size, random);
+        let [.., largest] = limits(key);
+        for class in ["ending in a leaf", "ending in a leaf behind a block"] {
+            for length in 0..=file.len() {
+                let file = &file[..length];
+                let keys = [largest, any_key(file, key, random)];
+                to.hold_finds(class, Search::of(file, &tree, key), keys)?;
+            }
+            block::put_in_front(&mut file, &mut tree, random);
+        }
+    }
+    Ok(())
 }
 
 /// Each byte of the nodes changed, in every way in the smallest files and in some in the others.

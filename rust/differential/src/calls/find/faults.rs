@@ -121,6 +121,7 @@ pub fn faults<'a>() -> Vec<Fault<Finding<'a>>> {
     faults.extend(of_fields());
     faults.extend(of_the_tests());
     faults.extend(of_answers());
+    faults.extend(based::faults_of_leaves());
     faults
 }
 

@@ -8,7 +8,7 @@ use std::fmt;
 use nuldrafon::raw;
 
 use super::based::{Based, OfTree};
-use super::case::{array, Case, Fault, Told};
+use super::case::{array, within_leaf_checksum, Case, Fault, Told, WITHIN_LEAF_CHECKSUM};
 use super::collect::Collecting;
 use super::typed;
 use crate::compare::bytes::{beginning, same_bytes};
@@ -17,7 +17,8 @@ use crate::inputs::{Field, Tree};
 use crate::model;
 pub use families::{
     as_written, at_every_base, at_the_limits_of_fields, behind_blocks, cut, damaged,
-    of_any_geometry, of_many_records, of_random_graphs, with_made_up_headers, with_several_causes,
+    ending_in_a_leaf, of_any_geometry, of_many_records, of_random_graphs, with_made_up_headers,
+    with_several_causes,
 };
 
 /// Where a key is looked for: a file, a header's figures as they go over, the offset size, and the
@@ -163,8 +164,7 @@ impl Case for Finding<'_> {
     }
 
     fn model(&self, _: &mut Self::Lent) -> Self::Answer {
-        let Search { file, key, .. } = self.search;
-        let found = model::find(file, &self.search.tree(), key, self.sought);
+        let found = self.found();
         let told = array(found.answer.map(|_| []));
         numbers(told, found.nodes, found.answer.unwrap_or(None))
     }
@@ -192,6 +192,7 @@ impl Case for Finding<'_> {
             [0, _, _, 0, ..] => Some("empty"),
             [0, _, _, _, 0, _] => Some("not found"),
             [0, ..] => Some("found"),
+            [1, ..] => within_leaf_checksum(self.found().answer).then_some(WITHIN_LEAF_CHECKSUM),
             _ => None,
         }
     }
@@ -236,6 +237,14 @@ impl Case for Finding<'_> {
 
     fn faults() -> Vec<Fault<Self>> {
         faults::faults()
+    }
+}
+
+impl Finding<'_> {
+    /// What the model finds.
+    fn found(&self) -> model::Found {
+        let Search { file, key, .. } = self.search;
+        model::find(file, &self.search.tree(), key, self.sought)
     }
 }
 

@@ -48,17 +48,20 @@ pub fn of_any_geometry(to: &mut Comparison, random: &mut Random) -> Held {
     Ok(())
 }
 
-/// Every end of the file up to some bytes after a leaf of it.
+/// Every end of the file up to some bytes after a leaf of it, without and with a block in front.
 pub fn cut(to: &mut Comparison, random: &mut Random) -> Held {
     for_each(to, random, |to, sample, random| {
-        let leaf = one_of(sample, random);
-        let end = (leaf.address + length_of(&leaf) + 2) as usize;
-        for length in 0..=end.min(sample.file.len()) {
-            let looks = [
-                any_look(&leaf, random),
-                (below(&leaf, random), leaf.record_size.into()),
-            ];
-            to.hold_looks("cut", &sample.file[..length], &leaf, looks)?;
+        for class in ["cut", "cut behind a block"] {
+            let leaf = one_of(sample, random);
+            let end = (leaf.base + leaf.address + length_of(&leaf) + 2) as usize;
+            for length in 0..=end.min(sample.file.len()) {
+                let looks = [
+                    any_look(&leaf, random),
+                    (below(&leaf, random), leaf.record_size.into()),
+                ];
+                to.hold_looks(class, &sample.file[..length], &leaf, looks)?;
+            }
+            sample.put_behind_a_block(random);
         }
         Ok(())
     })

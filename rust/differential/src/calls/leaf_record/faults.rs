@@ -25,15 +25,16 @@ fn hand_out_at(look: &Look, index: u64, answer: &mut [u64; 3], output: &mut [u8]
 pub fn faults<'a>() -> Vec<Fault<Look<'a>>> {
     let mut faults = based::faults();
     faults.extend(of_records());
+    faults.extend(based::faults_of_leaves());
     faults.extend([
         Fault::<Look>::both(
-            "a checksum asked for where its bytes are not there",
+            "a checksum asked for before the records",
             |look, answer, _| {
-                let (leaf, part) = (look.leaf, look.part().unwrap_or_default());
-                let length = part.len() as u64;
+                let leaf = look.leaf;
                 let records = u64::from(leaf.count) * u64::from(leaf.record_size);
-                if answer[0] == 0 && leaf.address + 6 + records + 3 == length {
-                    *answer = [1, length + 1, length];
+                let end = leaf.address.saturating_add(6 + records);
+                if answer[..2] == [1, end] && records > 0 {
+                    answer[1] = end.saturating_add(4);
                 }
             },
         ),

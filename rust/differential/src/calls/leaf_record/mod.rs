@@ -8,7 +8,7 @@ use std::fmt;
 use nuldrafon::{raw, LeafView, Refusal};
 
 use super::based::Based;
-use super::case::{array, Case, Fault};
+use super::case::{array, within_leaf_checksum, Case, Fault, WITHIN_LEAF_CHECKSUM};
 use crate::compare::bytes::{beginning, pattern, same_bytes};
 use crate::compare::{rust, same, Comparison, Held};
 use crate::inputs::Leaf;
@@ -44,6 +44,11 @@ impl<'a> Look<'a> {
             0 => LeafView::new(self.file, address, count, record_size),
             _ => LeafView::new_at(self.file, base, address, count, record_size),
         }
+    }
+
+    /// Whether the file ends within the leaf's checksum.
+    fn within_leaf_checksum(&self) -> bool {
+        within_leaf_checksum(model::leaf_record(self.file, &self.leaf, 0, &mut []))
     }
 
     /// What the Rust's records say: an index behind them is that of an empty one, and 15 comes
@@ -154,6 +159,11 @@ impl Case for Look<'_> {
         }
     }
 
+    fn outcome(&self, answer: &Self::Answer) -> Option<&'static str> {
+        let within = answer[0] == 1 && self.within_leaf_checksum();
+        within.then_some(WITHIN_LEAF_CHECKSUM)
+    }
+
     fn hold_to_rust(&self, ours: &Self::Answer, [output]: &Self::Lent) -> Option<Held> {
         let (answer, record) = self.expected(self.theirs?);
         let case = || self.to_string();
@@ -191,7 +201,8 @@ impl Case for Look<'_> {
 
 impl Comparison {
     /// Looks at a leaf, each for an index and with a length of the output. The Rust gives all
-    /// records at once; it is not asked where the record size is 0, which it does not refuse.
+    /// records at once; it is not asked where the record size is 0 or the file ends within the
+    /// checksum, which it does not refuse.
     pub fn hold_looks(
         &mut self,
         class: &'static str,
@@ -206,7 +217,8 @@ impl Comparison {
             output_length: 0,
             theirs: None,
         };
-        let with_rust = oracle::AVAILABLE && leaf.record_size != 0;
+        let refuses = leaf.record_size == 0 || look.within_leaf_checksum();
+        let with_rust = oracle::AVAILABLE && !refuses;
         let part = look.part().filter(|_| with_rust);
         let theirs = part.map(|part| rust::leaf(part, leaf));
         look.theirs = theirs.as_ref();
