@@ -154,7 +154,8 @@ enum {
 /*
  * Puts the records of a tree in the file end to end into the output, in order; the output's other
  * bytes stay. The numbers from `tree_type` to `total_records` are the header's, as btree_v2_parse
- * gives them. Refusals: 1, 2, 4, 6, 8, 15, 16; the records before it are in the output.
+ * gives them. A leaf is read only where its checksum is there, else the file ends early (1), and is
+ * right (6). Refusals: 1, 2, 4, 6, 8, 15, 16; the records before it are in the output.
  */
 void btree_v2_collect(const uint8_t *file, size_t file_length, uint8_t tree_type,
                       uint32_t node_size, uint16_t record_size, uint16_t depth,
@@ -186,8 +187,8 @@ enum { BTREE_V2_LEAF_RECORD_LENGTH = 1, BTREE_V2_LEAF_RECORD_PLACES = 3 };
 /*
  * Copies record `index` of the leaf at `address` of the file, which has `count` records, to the
  * front of the output; the record is empty where `index` is not below `count`. The output's other
- * bytes stay. Refusals in this order: 8, the leaf's as in collecting (1, 2, 1, 6), 15; nothing is
- * written then.
+ * bytes stay. Refusals in this order: 8, the leaf's as in collecting (1, 2, 1, 1, 6: the first 6
+ * bytes, signature, records, the checksum's 4 bytes, checksum), 15; nothing is written then.
  */
 void btree_v2_leaf_record(const uint8_t *file, size_t file_length, uint64_t address, uint16_t count,
                           uint16_t record_size, uint64_t index, uint8_t *output,

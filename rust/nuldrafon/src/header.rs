@@ -210,7 +210,8 @@ impl Header {
     /// Where the header's tree was written by this crate and stands whole in the file, an output
     /// of [`total_records`](Self::total_records) times the record size is long enough, and every
     /// record comes out. Of another file the header's record count is not compared, nor are
-    /// checksums of internal nodes: [`Counts::records`] tells how many records there were.
+    /// checksums of internal nodes: [`Counts::records`] tells how many records there were. A leaf is
+    /// read only where its checksum is there and right.
     ///
     /// Refused by the first of the tree's nodes that cannot be read:
     /// [`Refusal::UnexpectedEof`], [`Refusal::InvalidBTreeV2Signature`],

@@ -18,6 +18,11 @@ const FRONT: usize = 6;
 /// assert_eq!(leaf.record(1), Some(&b"record 1"[..]));
 /// assert_eq!(leaf.record(2), None);
 /// assert!(leaf.records().eq([b"record 0", b"record 1"]));
+///
+/// // A copy that stopped short has the records, and not all of the checksum.
+/// let (expected, available) = (26, 25);
+/// let short = LeafView::new(&file[..25], 0, 2, 8);
+/// assert_eq!(short, Err(Refusal::UnexpectedEof { expected, available }));
 /// # Ok::<(), Refusal>(())
 /// ```
 #[derive(Debug, Clone, Copy, PartialEq, Eq, Hash)]
@@ -34,7 +39,8 @@ impl<'a> LeafView<'a> {
     ///
     /// Refused by [`Refusal::ZeroRecordSize`], then by the first test that fails from the front of
     /// the leaf to its end, by one of [`Refusal::UnexpectedEof`],
-    /// [`Refusal::InvalidBTreeV2Signature`], [`Refusal::ChecksumMismatch`].
+    /// [`Refusal::InvalidBTreeV2Signature`], [`Refusal::ChecksumMismatch`]. The four bytes of the
+    /// checksum have to be there, too.
     pub fn new(
         file: &'a [u8],
         address: u64,
