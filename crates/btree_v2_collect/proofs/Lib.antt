@@ -1,6 +1,7 @@
 -- The laws that the crate's proofs cite.
 mod Calls
 pub mod Bases
+pub mod Reached
 pub mod Changed
 mod Holding
 mod Putting

@@ -42,7 +42,7 @@ module _ (file : List ℕ) (g : Geometry) where
         by true h = fits (h refl)
         by false h = short
 
-  then-then : (r : Run) (f g : Counts → List ℕ → Run) → andThen (andThen r f) g ≡ andThen r (λ c o. andThen (f c o) g)
+  pub then-then : (r : Run) (f g : Counts → List ℕ → Run) → andThen (andThen r f) g ≡ andThen r (λ c o. andThen (f c o) g)
   then-then (fine c o) f g = refl
   then-then (stopped number values c o) f g = refl
 

@@ -140,7 +140,7 @@ module _ (file : List ℕ) (h : BTreeV2Header) (f : Field) (x : ℕ) where
   pub nodes-empty : noRecords (h .«total_records») (h .«num_records_in_root») ≡ true → descended file h f x ≡ ended (accepted [])
   nodes-empty = descended-empty file h f x
 
-  key-plain : Plain (keyTest f (recordSize h))
+  pub key-plain : Plain (keyTest f (recordSize h))
   unfolding keyTest
   key-plain = plain-or (numberField f (recordSize h)) (refuses 17 (omega arith)) accepts
 

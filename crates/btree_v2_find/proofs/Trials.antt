@@ -1,21 +1,21 @@
--- Trials: what the definitions of finding say of small lists, of a small tree and before the root, computed.
+-- Trials: what the definitions of finding say of small lists, of a small tree, before the root and of leaves without their checksums, computed.
 use mathlib.Core.Path.{_≡_, refl}
 use mathlib.Core.Bool.{true, false}
 use mathlib.Core.List.{List, [], _∷_, _++_}
 use Prim.Native.Nat.{ℕ, _-_, _^_}
 use lib.ListN.{getD, replicate}
 use Rattle.refusal.specs.Answer.{accepted, refused, cells}
-use Rattle.numbers.specs.Numbers.{unle, num, leastFrom, width}
+use Rattle.numbers.specs.Numbers.{unle, num, leastFrom, width, fieldSize}
 use Rattle.node_info.specs.declared.Geometry.{Geometry}
 use Rattle.node_info.specs.Capacity.{leafCapacity, countWidth, totalWidth}
 use Rattle.field.specs.declared.Field.{Field}
 use Rattle.field.specs.Field.{numberField, numberAt}
 use Rattle.read_checks.specs.Base.{onPart}
-use Rattle.format.specs.Bytes.{leafSignature}
+use Rattle.format.specs.Bytes.{leafSignature, internalSignature}
 use Rattle.read_checks.specs.Tests.{rootTest, frontTest, same}
 use Rattle.btree_v2_header.specs.Header.{withBase}
 use Rattle.btree_v2_header.specs.declared.BTreeV2Header.{BTreeV2Header}
-use Rattle.btree_v2_internal.specs.Internal.{pointerPlace, childAddress, childRecords}
+use Rattle.btree_v2_internal.specs.Internal.{pointerPlace, childAddress, childRecords, internalBody, internalTest}
 use Rattle.btree_v2_leaf.specs.Leaf.{leafBody, leafTest}
 use Rattle.btree_v2_collect.specs.Walk.{Tests}
 use Rattle.btree_v2_collect.specs.Collect.{collectTests}
@@ -113,7 +113,7 @@ with-base : (foundAt (9 ∷ file) (withBase 31 (header 0 0 33)) (field 0 9) 5 �
 unfolding foundAt onPart findCells cells placeFound lastWith descended rootTest
 with-base = (refl, refl, refl, refl)
 
--- A leaf of one record, 7, whose file ends within its checksum: refused by 1 with the end of that, whatever is sought, with a base too.
+-- A leaf of one record, 7, whose file ends within its checksum: refused by 1 with the checksum's end, whatever is sought, with a base too.
 abbrev cut : ℕ → List ℕ
 cut k = leafSignature ++ (0 ∷ 5 ∷ 7 ∷ replicate k 0)
 
@@ -121,3 +121,14 @@ short-leaf : (foundAt (cut 3) (header 1 1 0) (field 0 1) 7 ≡ 1 ∷ 11 ∷ 10 �
     × (foundAt (9 ∷ cut 3) (withBase 1 (header 1 1 0)) (field 0 1) 8 ≡ 1 ∷ 11 ∷ 10 ∷ 0 ∷ 0 ∷ 0 ∷ [])
 unfolding foundAt onPart findCells cells placeFound lastWith descended rootTest keyTest numberField descent collectTests leafTest leafBody frontTest same
 short-leaf = (refl, refl, refl)
+
+-- The same of the last leaf under a root, where the key leads there. The root has record 85 and leads to leaves at 17 and 29.
+abbrev under : List ℕ
+under =
+    internalSignature
+    ++ (0 ∷ 0 ∷ 85 ∷ 17 ∷ 0 ∷ 2 ∷ 29 ∷ 0 ∷ 1 ∷ (replicate 16 0 ++ (leafSignature ++ (0 ∷ 5 ∷ 122 ∷ []))))
+
+short-last-leaf : foundAt under (header 4 1 1) (field 0 1) 122 ≡ 1 ∷ 40 ∷ 36 ∷ 1 ∷ 0 ∷ 0 ∷ []
+unfolding foundAt onPart findCells cells placeFound lastWith descended rootTest keyTest numberField descent bounding bound boundFrom numberAt num unle pointerPlace childAddress
+    childRecords countWidth totalWidth width leastFrom leafCapacity collectTests internalTest internalBody fieldSize leafTest leafBody frontTest same
+short-last-leaf = refl

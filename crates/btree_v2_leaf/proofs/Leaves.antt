@@ -38,14 +38,16 @@ module _ (file : List ℕ) (k a n : ℕ) where
   pub records-fit : length file < 2 ^ 64 → a + recordsEnd k n ≤ length file → Fits w64 (a + recordsEnd k n)
   records-fit h there = omega arith
 
-  module _ (there : a + recordsEnd k n ≤ length file) (sum : Verdict) (code : verdictOf sum ≡ needs (a + recordsEnd k n + 4) (length file) (accepted [])) where
-    pub body-cut : (q : Refusal) → sum ≡ Refused q → verdictOf sum ≡ leafBody file k a n
+  module _ (records : a + recordsEnd k n ≤ length file) (sum-there : Verdict)
+      (code : verdictOf sum-there ≡ needs (a + recordsEnd k n + 4) (length file) (accepted [])) where
+    pub body-cut : (q : Refusal) → sum-there ≡ Refused q → verdictOf sum-there ≡ leafBody file k a n
     unfolding leafBody
-    body-cut q e = rw (le-leb _ _ there, e) (sym (bytes-missing (a + recordsEnd k n + 4) (length file) sum code q e _))
+    body-cut q e = rw (le-leb _ _ records, e) (sym (bytes-missing (a + recordsEnd k n + 4) (length file) sum-there code q e _))
 
-    pub body-checked : sum ≡ Accepted → (last : Verdict) → verdictOf last ≡ checksumTest file a (a + recordsEnd k n) (accepted []) → verdictOf last ≡ leafBody file k a n
+    pub body-checked : sum-there ≡ Accepted → (sum-right : Verdict)
+        → verdictOf sum-right ≡ checksumTest file a (a + recordsEnd k n) (accepted []) → verdictOf sum-right ≡ leafBody file k a n
     unfolding leafBody
-    body-checked e last rest = rw (le-leb _ _ there, le-leb _ _ (bytes-there (a + recordsEnd k n + 4) (length file) sum code e)) rest
+    body-checked e sum-right rest = rw (le-leb _ _ records, le-leb _ _ (bytes-there (a + recordsEnd k n + 4) (length file) sum-there code e)) rest
 
   -- A leaf that passes has its records.
   pub leaf-there : (v : Verdict) → verdictOf v ≡ leafTest file k a n → v ≡ Accepted → a + 6 + n * k ≤ length file

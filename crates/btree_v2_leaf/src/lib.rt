@@ -26,9 +26,9 @@ pub fn check_body(file: &[u8], address: u64, count: u16, record_size: u16) -> Ve
         return records;
     };
     let end = address + size;
-    let sum = read_checks::ensure_len(file, end, 4);
-    let Verdict::Accepted = sum else {
-        return sum;
+    let checksum_there = read_checks::ensure_len(file, end, 4);
+    let Verdict::Accepted = checksum_there else {
+        return checksum_there;
     };
     read_checks::check_checksum(file, address as usize, end as usize)
 }

@@ -1,6 +1,6 @@
 -- The definitions computed on small trees and files, beside the answers due. Bytes, headers read, records collected and the reading calls'
 -- refusals 1 to 6 with their figures are what the Rust gave for the same input; counts, what a refused collecting leaves, and a write's
--- refusals and 8, 15 and 16 are document 01's, 18 and the refusal of a leaf without its checksum are document 02's.
+-- refusals and 8, 15 and 16, and looks, are document 01's, 18 and the refusal of a leaf without its checksum are document 02's.
 use mathlib.Core.Path.{_≡_, refl}
 use mathlib.Core.List.{List, [], _∷_, _++_, reverse}
 use Prim.Native.Nat.{ℕ, zero, suc, _+_, _-_, _*_, _%_}
@@ -88,7 +88,7 @@ collecting file h n answer k = ending (collected file h (lent n)) n answer k
 collectingAt : List ℕ → ℕ → BTreeV2Header → ℕ → List ℕ → ℕ → Trial
 collectingAt file base h n answer k = ending (collectedAt file (withBase base h) (lent n)) n answer k
 
--- A look at record 0 of a leaf at 0 with n records of 8 bytes, into an output of as many, of which the first k are then the record.
+-- A look at record 0 of a leaf at 0 with n records of 8 bytes, into an output of 8 bytes, of which the first k are then the record.
 looking : List ℕ → ℕ → ℕ → List ℕ → ℕ → Trial
 looking file base n answer k =
     record {
@@ -154,6 +154,19 @@ eightImage =
 
 eightFile : List ℕ
 eightFile = ramp 7 ++ (eightHeader ++ eightImage)
+
+-- The nodes of the 8 records in another order, the leaves last, and with other addresses.
+leavesLast : List ℕ
+leavesLast =
+    dumps 40
+    (0x4254494e0006abd0f51a3f6489ae280000000000000001045000000000000000010369b7cfac0000
+    ∷ 0x4254494e00065b80a5caef14395e780000000000000002a00000000000000001140431a900000000
+    ∷ 0x4254494e0006fb20456a8fb4d9fec80000000000000001f000000000000000017da0038300000000
+    ∷ 0x42544c4600060b30557a9fc4e90e33587da2c7ec113658bca6600000000000000000000000000000
+    ∷ 0x42544c46000683a8cdf2173c61866327beb400000000000000000000000000000000000000000000
+    ∷ 0x42544c460006d3f81d42678cb1d6c42d209100000000000000000000000000000000000000000000
+    ∷ 0x42544c46000623486d92b7dc0126cc74306500000000000000000000000000000000000000000000
+    ∷ [])
 
 twoHeader : List ℕ
 twoHeader = dump 34 0x4254484400ff1a0000000800000064280700000002000200000000000000f0bdab69
@@ -244,11 +257,16 @@ collects =
     ∷ leaf (set (take 34 threeImage) 33 0) (6 ∷ 15263223 ∷ 4226344439 ∷ none) 0
     ∷ leaf (take 29 threeImage) (1 ∷ 30 ∷ 29 ∷ none) 0
     ∷ leaf (take 5 threeImage) (1 ∷ 6 ∷ 5 ∷ none) 0
-    ∷ pair lastOfOne (0 ∷ 0 ∷ 0 ∷ 4 ∷ 2 ∷ 1 ∷ 1 ∷ []) 4
-    ∷ pair (take 36 lastOfOne) (1 ∷ 40 ∷ 36 ∷ 3 ∷ 1 ∷ 1 ∷ 1 ∷ []) 3
-    ∷ pair lastOfNone (0 ∷ 0 ∷ 0 ∷ 3 ∷ 2 ∷ 1 ∷ 1 ∷ []) 3
-    ∷ pair (take 38 lastOfNone) (1 ∷ 39 ∷ 38 ∷ 3 ∷ 1 ∷ 1 ∷ 1 ∷ []) 3
-    ∷ pair (take 35 lastOfNone) (1 ∷ 39 ∷ 35 ∷ 3 ∷ 1 ∷ 1 ∷ 1 ∷ []) 3
+    ∷ collecting (dump 10 0x42544c460000eb9591bd) (header 40 1 3 0 0 1 1) 25 (1 ∷ 11 ∷ 10 ∷ none) 0
+    ∷ pair lastOfOne 6 (0 ∷ 0 ∷ 0 ∷ 4 ∷ 2 ∷ 1 ∷ 1 ∷ []) 4
+    ∷ pair (take 36 lastOfOne) 6 (1 ∷ 40 ∷ 36 ∷ 3 ∷ 1 ∷ 1 ∷ 1 ∷ []) 3
+    ∷ pair (take 36 lastOfOne) 3 (1 ∷ 40 ∷ 36 ∷ 3 ∷ 1 ∷ 1 ∷ 1 ∷ []) 3
+    ∷ pair (take 36 lastOfOne) 2 (15 ∷ 2 ∷ 0 ∷ 2 ∷ 1 ∷ 1 ∷ 0 ∷ []) 2
+    ∷ pair lastOfNone 6 (0 ∷ 0 ∷ 0 ∷ 3 ∷ 2 ∷ 1 ∷ 1 ∷ []) 3
+    ∷ pair (take 38 lastOfNone) 6 (1 ∷ 39 ∷ 38 ∷ 3 ∷ 1 ∷ 1 ∷ 1 ∷ []) 3
+    ∷ pair (take 35 lastOfNone) 6 (1 ∷ 39 ∷ 35 ∷ 3 ∷ 1 ∷ 1 ∷ 1 ∷ []) 3
+    ∷ collecting (take 258 leavesLast) (header 40 8 8 2 0 1 8) 64 (0 ∷ 0 ∷ 0 ∷ 8 ∷ 4 ∷ 3 ∷ 3 ∷ []) 64
+    ∷ collecting (take 257 leavesLast) (header 40 8 8 2 0 1 8) 64 (1 ∷ 258 ∷ 257 ∷ 7 ∷ 3 ∷ 3 ∷ 3 ∷ []) 56
     ∷ []
   where
     none : List ℕ
@@ -267,8 +285,8 @@ collects =
     lastOfNone : List ℕ
     lastOfNone = dump 39 0x4254494e00005511000200011d000000ff42544c4600000b309294cc3042544c460000395c5443
 
-    pair : List ℕ → List ℕ → ℕ → Trial
-    pair file answer k = collecting file (header 70000 1 2 1 0 1 9) 6 answer k
+    pair : List ℕ → ℕ → List ℕ → ℕ → Trial
+    pair file n answer k = collecting file (header 70000 1 2 1 0 1 9) n answer k
 
 -- Behind a block of 100 bytes: the figures of 1 are those of the part behind it, and 18 comes before all else.
 behind : List Trial
@@ -293,7 +311,7 @@ behind =
     none : List ℕ
     none = 0 ∷ 0 ∷ 0 ∷ 0 ∷ []
 
--- Looks at a leaf of three records, and at one of none: whole, without a byte of the checksum, and without any.
+-- Looks at a leaf of three records, and at one of none: whole, without the last byte of the checksum, and without any of it.
 looks : List Trial
 looks =
     looking (take 34 threeImage) 0 3 (0 ∷ 8 ∷ 0 ∷ []) 8
@@ -318,6 +336,6 @@ unfolding computed rootTest le unle num leastFrom width fieldSize stored cells l
     putRecords pointerPlace childAddress childRecords leafRun childRun ownRecordRun childrenRun nodeRun same frontTest checksumTest headerAt
     parsed leafBody leafTest internalBody internalTest collectTests collected runCells dump dumps rampFrom ramp lent writing summing refusing reading
     collecting onPart parsedAt collectedAt readingAt ending collectingAt behind lookTest lookBytes recordOf recordAnswer recordExit
-    recordAnswerAt recordExitAt looking looks request header threeHeader threeImage fourHeader fourImage eightHeader eightImage eightFile twoHeader twoImage noneHeader
+    recordAnswerAt recordExitAt looking looks request header threeHeader threeImage fourHeader fourImage eightHeader eightImage eightFile leavesLast twoHeader twoImage noneHeader
     noneImage writes reads collects disagreeing
 agree = refl

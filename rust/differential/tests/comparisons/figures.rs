@@ -165,5 +165,11 @@ fn leaf_without_its_checksum() {
     assert_eq!(look(&file, &mut output), [0, 8, 0]);
     assert_eq!(&output[..8], b"record 2");
     assert_eq!(find(&file), [0, 0, 0, 1, 1, 14]);
+
+    // The last byte of this checksum is 0: where it is missing, it is not taken for 0.
+    let file = b"BTLF\0\0\xeb\x95\x91\xbd\0";
+    let look = |file: &[u8]| raw::leaf_record(file, 0, 1, 1, 0, &mut [0]);
+    assert_eq!(look(file), [0, 1, 0]);
+    assert_eq!(look(&file[..10]), [1, 11, 10]);
     say("figures: a leaf that ends 3 bytes after its records, or fewer, is refused by 1");
 }
