@@ -6,7 +6,7 @@ use native.Mathlib.Omega.{arith}
 use lib.ListN.{length}
 use mir.Syntax.{w64}
 use mir.Val.{Fits}
-use borrow.Author.Tests.{le-leb}
+use borrow.Author.Tests.{le-leb, lt-leb}
 use Rattle.refusal.specs.declared.Refusal.{Refusal}
 use Rattle.refusal.specs.Answer.{accepted, verdictOf}
 use Rattle.format.specs.Bytes.{leafSignature, recordsEnd}
@@ -15,7 +15,7 @@ use Rattle.btree_v2_leaf.specs.Leaf.{leafBody, leafTest}
 use Rattle.btree_v2_leaf.proofs.Records as records
 use Rattle.refusal.specs.declared.Verdict.{Verdict}
 use Rattle.refusal.specs.declared.Verdict.the-variants.{Accepted, Refused}
-use Rattle.read_checks.proofs.Checks.{bytes-there, bytes-missing, first-refuses, first-accepts}
+use Rattle.read_checks.proofs.Checks.{bytes-missing, first-refuses, first-accepts}
 
 module _ (file : List ℕ) (k a n : ℕ) where
   -- `check_leaf`: the front, and the body where the front is accepted.
@@ -38,16 +38,15 @@ module _ (file : List ℕ) (k a n : ℕ) where
   pub records-fit : length file < 2 ^ 64 → a + recordsEnd k n ≤ length file → Fits w64 (a + recordsEnd k n)
   records-fit h there = omega arith
 
-  module _ (records : a + recordsEnd k n ≤ length file) (sum-there : Verdict)
-      (code : verdictOf sum-there ≡ needs (a + recordsEnd k n + 4) (length file) (accepted [])) where
-    pub body-cut : (q : Refusal) → sum-there ≡ Refused q → verdictOf sum-there ≡ leafBody file k a n
-    unfolding leafBody
-    body-cut q e = rw (le-leb _ _ records, e) (sym (bytes-missing (a + recordsEnd k n + 4) (length file) sum-there code q e _))
+  pub body-cut : (sum-there : Verdict) → verdictOf sum-there ≡ needs (a + recordsEnd k n + 4) (length file) (accepted [])
+      → length file - (a + recordsEnd k n) < 4 → a + recordsEnd k n ≤ length file → verdictOf sum-there ≡ leafBody file k a n
+  unfolding leafBody
+  body-cut sum-there code h there = code ∙ rw (le-leb _ _ there, lt-leb (a + recordsEnd k n + 4) (length file) (omega arith))
 
-    pub body-checked : sum-there ≡ Accepted → (sum-right : Verdict)
-        → verdictOf sum-right ≡ checksumTest file a (a + recordsEnd k n) (accepted []) → verdictOf sum-right ≡ leafBody file k a n
-    unfolding leafBody
-    body-checked e sum-right rest = rw (le-leb _ _ records, le-leb _ _ (bytes-there (a + recordsEnd k n + 4) (length file) sum-there code e)) rest
+  pub body-checked : (sum : Verdict) → verdictOf sum ≡ checksumTest file a (a + recordsEnd k n) (accepted [])
+      → 4 ≤ length file - (a + recordsEnd k n) → a + recordsEnd k n ≤ length file → verdictOf sum ≡ leafBody file k a n
+  unfolding leafBody
+  body-checked sum e h there = rw (le-leb _ _ there, le-leb (a + recordsEnd k n + 4) (length file) (omega arith)) e
 
   -- A leaf that passes has its records.
   pub leaf-there : (v : Verdict) → verdictOf v ≡ leafTest file k a n → v ≡ Accepted → a + 6 + n * k ≤ length file

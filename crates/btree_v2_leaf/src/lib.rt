@@ -25,10 +25,9 @@ pub fn check_body(file: &[u8], address: u64, count: u16, record_size: u16) -> Ve
     let Verdict::Accepted = records else {
         return records;
     };
-    let end = address + size;
-    let checksum_there = read_checks::ensure_len(file, end, 4);
-    let Verdict::Accepted = checksum_there else {
-        return checksum_there;
-    };
-    read_checks::check_checksum(file, address as usize, end as usize)
+    let end = (address + size) as usize;
+    if file.len() - end < 4 {
+        return read_checks::ensure_len(file, end as u64, 4);
+    }
+    read_checks::check_checksum(file, address as usize, end)
 }
