@@ -1,6 +1,6 @@
-/* The fuzzer's driver: each input goes through the header reader, the two collectors, the look at a
- * leaf and the find of the C library, with a base and without, and through the shadow, which must
- * agree in every number and every byte. */
+/* The fuzzer's driver: each input goes through the header reader, the collector, the look at a leaf
+ * and the find of the C library, with a base and without, and through the shadow, which must agree
+ * in every number and every byte. */
 #include <inttypes.h>
 #include <stdio.h>
 #include <stdlib.h>
@@ -11,7 +11,7 @@
 #include "lent.h"
 #include "shadow.h"
 
-enum { CAUSES = BTREE_V2_TOTAL_DIFFERS + 1, MOST_PLACES = BTREE_V2_PARSE_AT_PLACES };
+enum { CAUSES = BTREE_V2_BASE_BEYOND_FILE + 1, MOST_PLACES = BTREE_V2_PARSE_AT_PLACES };
 
 /* The places that are lent to the archive: the file, a header's figures, the output and the
  * answer. */
@@ -40,10 +40,9 @@ struct loan {
     uint64_t *answer;
 };
 
-/* A call: by the shadow, and by the archive's functions without a base, where there is one, and with
- * one; how many numbers these answer; whether it has an output, and sets checksums right where that
- * is asked for. How often each answer was given, without a base and with one above 0, and a record
- * found. */
+/* A call: by the shadow, and by the archive's functions without a base and with one; how many
+ * numbers these answer; whether it has an output, and sets checksums right where that is asked for.
+ * How often each answer was given, without a base and with one above 0, and a record found. */
 struct call {
     const char *name;
     void (*shadow)(const struct given *, struct source, uint8_t *output, uint64_t *answer);
@@ -85,16 +84,6 @@ static void collect_at(const struct given *g, struct loan l) {
                         l.answer);
 }
 
-static void shade_collect_checked(const struct given *g, struct source s, uint8_t *output,
-                                  uint64_t *answer) {
-    shadow_collect_checked(s, g->tree, output, g->output_length, answer);
-}
-
-static void collect_checked(const struct given *g, struct loan l) {
-    btree_v2_collect_checked(l.file, l.length, l.figures, g->offset_size, l.output,
-                             g->output_length, l.answer);
-}
-
 /* The root is looked at as a leaf. */
 static void shade_look(const struct given *g, struct source s, uint8_t *output, uint64_t *answer) {
     shadow_leaf_record(s, g->tree, g->index, output, g->output_length, answer);
@@ -127,14 +116,12 @@ static void find_at(const struct given *g, struct loan l) {
                      g->sought.width, g->sought.key, l.answer);
 }
 
-enum { PARSE, COLLECT, COLLECT_CHECKED, LOOK, FIND, CALLS };
+enum { PARSE, COLLECT, LOOK, FIND, CALLS };
 static struct call calls[CALLS] = {
     [PARSE] = {"header reads", shade_parse, parse, parse_at, BTREE_V2_PARSE_PLACES,
                BTREE_V2_PARSE_AT_PLACES, .mends = true},
     [COLLECT] = {"collectings", shade_collect, collect, collect_at, BTREE_V2_COLLECT_PLACES,
                  BTREE_V2_COLLECT_PLACES, .outputs = true, .mends = true},
-    [COLLECT_CHECKED] = {"checked collectings", shade_collect_checked, NULL, collect_checked, 0,
-                         BTREE_V2_COLLECT_PLACES, .outputs = true, .mends = true},
     [LOOK] = {"looks at a leaf", shade_look, look, look_at, BTREE_V2_LEAF_RECORD_PLACES,
               BTREE_V2_LEAF_RECORD_PLACES, .outputs = true},
     [FIND] = {"finds", shade_find, find, find_at, BTREE_V2_FIND_PLACES, BTREE_V2_FIND_PLACES,
@@ -257,7 +244,7 @@ static void run(struct call *call, const struct given *g, struct source s,
     }
     if (s.base == 0 || s.base > s.length) call->shadow(g, part, output, answer);
     if (call == &calls[PARSE]) answer[BTREE_V2_PARSE_BASE] = 0;
-    if (call->before != NULL) ask(call, g, part, false, output, answer);
+    ask(call, g, part, false, output, answer);
     ask(call, g, part, true, output, answer);
     count(call, 0, answer);
     free(output);

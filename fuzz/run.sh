@@ -39,7 +39,7 @@ for _ in "${ids[@]}"; do
     fi
 done
 for ((i = 0; i < processes; i++)); do
-    grep -hE '^(agreed|header reads|collectings|checked|looks|finds|Done|.*(differ:|ERROR:|SUMMARY:|Test unit written))' \
+    grep -hE '^(agreed|header reads|collectings|looks|finds|Done|.*(differ:|ERROR:|SUMMARY:|Test unit written))' \
         "$out/$i.log" || true
 done
 if [ "$status" -ne 0 ]; then

@@ -8,7 +8,7 @@
 #include "checksum.h"
 #include "input.h"
 
-enum { MOST_FILE = 1 << 15, IMAGE_AT = 48, DEEPEST = BTREE_V2_LEVELS - 1, TREE_TYPE = 5 };
+enum { MOST_FILE = 1 << 15, IMAGE_AT = 48, DEEPEST = BTREE_V2_LEVELS - 1 };
 
 /* A tree: node size, record size, offset size, length size, records. */
 struct shape {
@@ -103,8 +103,8 @@ static int tree(const char *folder, size_t i, int flags) {
     for (size_t j = 0; j < length; j++) records[j] = (uint8_t)(j * 7 + i);
     for (uint64_t j = 1; j <= s->records; j++)
         place(records + j * s->record_size - width, j, (int)width);
-    btree_v2_write(TREE_TYPE, s->records, s->record_size, s->node_size, s->offset_size,
-                   s->length_size, IMAGE_AT, records, length, part, IMAGE_AT, part + IMAGE_AT,
+    btree_v2_write(5, s->records, s->record_size, s->node_size, s->offset_size, s->length_size,
+                   IMAGE_AT, records, length, part, IMAGE_AT, part + IMAGE_AT,
                    MOST_FILE - IMAGE_AT, answer);
     const uint8_t *file = input + AT_FILE;
     btree_v2_parse_at(file, block + MOST_FILE, block, 0, s->offset_size, s->length_size, header);
@@ -117,35 +117,30 @@ static int tree(const char *folder, size_t i, int flags) {
     return save(folder, "tree", i, flags, bytes);
 }
 
-/* One node of each level, each with one record and both pointers to the node below; no header. The
- * totals are those of the subtrees, as far as they fit. */
+/* One node of each level, each with one record and both pointers to the node below; no header. */
 static int tower(const char *folder, size_t i, int flags) {
     const struct shape *s = &towers[i];
     size_t block;
     uint8_t *part = begin(i, flags, &block), *at = part;
-    uint64_t table[BTREE_V2_NODE_INFO_PLACES], below = 0, total = 0;
+    uint64_t table[BTREE_V2_NODE_INFO_PLACES], below = 0;
     btree_v2_node_info(s->node_size, s->record_size, s->offset_size, DEEPEST, table);
     const uint64_t count_width = table[BTREE_V2_NODE_INFO_COUNT_WIDTH];
     const uint64_t *total_width = table + BTREE_V2_NODE_INFO_TOTAL_WIDTH;
     for (int level = 0; level <= DEEPEST; level++) {
         uint8_t *node = at;
         memcpy(node, level == 0 ? "BTLF" : "BTIN", 4);
-        node[5] = TREE_TYPE;
         at += 6 + s->record_size;
         for (int child = 0; level > 0 && child < 2; child++) {
             place(at, below, s->offset_size);
             place(at + s->offset_size, 1, (int)count_width);
-            at += s->offset_size + count_width;
-            place(at, total, (int)total_width[level - 1]);
-            at += total_width[level - 1];
+            at += s->offset_size + count_width + total_width[level - 1];
         }
         place(at, checksum_jenkins_lookup3(node, (size_t)(at - node)), 4);
         at += 4;
         below = (uint64_t)(node - part);
-        total = 1 + 2 * total;
     }
     uint64_t header[BTREE_V2_PARSE_AT_PLACES] = {
-        0, TREE_TYPE, s->node_size, s->record_size, DEEPEST, below, 1, total, block};
+        0, 5, s->node_size, s->record_size, DEEPEST, below, 1, UINT64_MAX, block};
     front(s, header, 0, flags | base_flag(i, flags));
     return save(folder, "tower", i, flags, (size_t)(at - input));
 }

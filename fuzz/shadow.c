@@ -90,12 +90,10 @@ struct tree tree_of(const uint64_t figures[7], uint8_t offset_size) {
     };
 }
 
-/* A walk over a tree: what it goes by, whether it makes every test of the format, and what it has
- * come to. */
+/* A walk over a tree: what it goes by, and what it has come to. */
 struct walk {
     struct source s;
     struct tree t;
-    bool checked;
     uint8_t count_width, total_width[33];
     uint8_t *output;
     size_t output_length;
@@ -138,13 +136,11 @@ static bool put(struct walk *w, const uint8_t *record) {
     return true;
 }
 
-/* What both kinds of node begin with: 6 bytes, the signature and, checked, version and type. */
+/* What both kinds of node begin with: 6 bytes, and the signature. */
 static bool begins(struct walk *w, uint64_t address, const char *signature) {
     if (!there(address, 6, w->s.length, w->answer)) return false;
-    const uint8_t *node = w->s.file + address;
-    if (memcmp(node, signature, 4) != 0) return refuse(w->answer, 2, 0, 0);
-    if (!w->checked || (node[4] == 0 && node[5] == w->t.tree_type)) return true;
-    return refuse(w->answer, 21, 0, 0);
+    if (memcmp(w->s.file + address, signature, 4) == 0) return true;
+    return refuse(w->answer, 2, 0, 0);
 }
 
 /* A leaf's tests. */
@@ -166,27 +162,23 @@ static bool leaf(struct walk *w, uint64_t address, uint16_t count) {
 
 static bool node(struct walk *w, unsigned level, uint64_t address, uint16_t count);
 
-/* Goes from an internal node that has passed its tests to its child i: address and records. The
- * child's total, 0 where it is a leaf. */
-static uint64_t go_below(const struct walk *w, unsigned level, size_t i, uint64_t *address,
-                         uint16_t *count) {
+/* Goes from an internal node that has passed its tests to its child i: address and records. */
+static void go_below(const struct walk *w, unsigned level, size_t i, uint64_t *address,
+                     uint16_t *count) {
     const uint8_t *pointers = w->s.file + *address + 6 + (size_t)*count * w->t.record_size;
     const uint8_t *pointer = pointers + i * pointer_width(w, level);
     *address = number(pointer, w->t.offset_size);
     *count = (uint16_t)number(pointer + w->t.offset_size, w->count_width);
-    return number(pointer + w->t.offset_size + w->count_width, w->total_width[level - 1]);
 }
 
-/* Child by child, with a record after each but the last; before it, checked, the child's total. */
+/* Child by child, with a record after each but the last. */
 static bool children(struct walk *w, unsigned level, uint64_t address, uint16_t count) {
     const uint8_t *records = w->s.file + address + 6;
     for (size_t i = 0; i <= count; i++) {
-        uint64_t child = address, before = w->records;
+        uint64_t child = address;
         uint16_t below = count;
-        uint64_t total = go_below(w, level, i, &child, &below);
+        go_below(w, level, i, &child, &below);
         if (!node(w, level - 1, child, below)) return false;
-        if (w->checked && level > 1 && total != w->records - before)
-            return refuse(w->answer, 22, 0, 0);
         if (i < count) {
             if (!put(w, records + i * w->t.record_size)) return false;
             w->internal_records++;
@@ -202,10 +194,7 @@ static bool internal_passes(struct walk *w, unsigned level, uint64_t address, ui
     uint64_t pointers = (count + UINT64_C(1)) * pointer_width(w, level);
     if (!there(6, bytes, rest, w->answer)) return false;
     if (!there(6 + bytes, pointers, rest, w->answer)) return false;
-    if (!is_field_size(w->t.offset_size)) return refuse(w->answer, 4, w->t.offset_size, 0);
-    if (!w->checked) return true;
-    uint64_t end = 6 + bytes + pointers;
-    return there(end, 4, rest, w->answer) && summed(w->s, address, address + end, w->answer);
+    return is_field_size(w->t.offset_size) || refuse(w->answer, 4, w->t.offset_size, 0);
 }
 
 static bool internal(struct walk *w, unsigned level, uint64_t address, uint16_t count) {
@@ -226,37 +215,18 @@ static bool root_passes(struct walk *w) {
     return w->t.depth <= 32 || refuse(w->answer, 16, w->t.depth, 0);
 }
 
-/* The tests of a collecting in their order. */
-static bool collect(struct walk *w) {
-    const struct tree *t = &w->t;
-    if (!from_base(&w->s, w->answer)) return false;
-    if (is_empty(t)) {
-        bool both = t->total_records == 0 && t->root_records == 0;
-        return !w->checked || both || refuse(w->answer, 22, 0, 0);
-    }
-    if (!root_passes(w)) return false;
-    widths(w);
-    if (!node(w, t->depth, t->root_address, t->root_records)) return false;
-    return !w->checked || w->records == t->total_records || refuse(w->answer, 22, 0, 0);
-}
-
-static void collect_by(struct walk w) {
-    memset(w.answer, 0, 7 * sizeof *w.answer);
-    collect(&w);
-    uint64_t counts[4] = {w.records, w.leaves, w.internals, w.internal_records};
-    memcpy(w.answer + 3, counts, sizeof counts);
-}
-
 void shadow_collect(struct source source, struct tree tree, uint8_t *output, size_t output_length,
                     uint64_t answer[7]) {
-    collect_by((struct walk){.s = source, .t = tree, .output = output,
-                             .output_length = output_length, .answer = answer});
-}
-
-void shadow_collect_checked(struct source source, struct tree tree, uint8_t *output,
-                            size_t output_length, uint64_t answer[7]) {
-    collect_by((struct walk){.s = source, .t = tree, .checked = true, .output = output,
-                             .output_length = output_length, .answer = answer});
+    struct walk w = {.s = source, .t = tree, .output = output, .output_length = output_length,
+                     .answer = answer};
+    memset(answer, 0, 7 * sizeof *answer);
+    if (!from_base(&w.s, answer) || is_empty(&tree)) return;
+    if (root_passes(&w)) {
+        widths(&w);
+        node(&w, tree.depth, tree.root_address, tree.root_records);
+    }
+    uint64_t counts[4] = {w.records, w.leaves, w.internals, w.internal_records};
+    memcpy(answer + 3, counts, sizeof counts);
 }
 
 /* The tests of the look in their order; then the record. */

@@ -34,14 +34,12 @@ uint64_t number(const uint8_t *bytes, size_t width);
 /* The tree of a header's seven figures, each modulo the range of its field. */
 struct tree tree_of(const uint64_t figures[7], uint8_t offset_size);
 
-/* The answers of btree_v2_parse_at, of btree_v2_collect_at, of btree_v2_collect_checked, of
- * btree_v2_leaf_record_at for the root of a tree as a leaf, and of btree_v2_find_at. */
+/* The answers of btree_v2_parse_at, of btree_v2_collect_at, of btree_v2_leaf_record_at for the root
+ * of a tree as a leaf, and of btree_v2_find_at. */
 void shadow_parse(struct source source, uint64_t offset, uint8_t offset_size, uint8_t length_size,
                   uint64_t answer[9]);
 void shadow_collect(struct source source, struct tree tree, uint8_t *output, size_t output_length,
                     uint64_t answer[7]);
-void shadow_collect_checked(struct source source, struct tree tree, uint8_t *output,
-                            size_t output_length, uint64_t answer[7]);
 void shadow_leaf_record(struct source source, struct tree tree, uint64_t index, uint8_t *output,
                         size_t output_length, uint64_t answer[3]);
 void shadow_find(struct source source, struct tree tree, struct sought sought, uint64_t answer[6]);

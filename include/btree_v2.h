@@ -21,10 +21,7 @@ enum { BTREE_V2_REFUSAL = 0, BTREE_V2_VALUE_1 = 1, BTREE_V2_VALUE_2 = 2 };
 /* The refusals; the values that come with one stand in brackets, and the others are 0. */
 enum btree_v2_refusal {
     BTREE_V2_ACCEPTED = 0,
-    /*
-     * The file ends early [end needed, at most 2^64 - 1; length of the file]. Behind the first 6
-     * bytes of an internal node both count from the node on.
-     */
+    /* The file ends early [end needed, at most 2^64 - 1; length of the file]. */
     BTREE_V2_FILE_ENDS_EARLY = 1,
     /* A signature is not the one due. */
     BTREE_V2_WRONG_SIGNATURE = 2,
@@ -63,14 +60,7 @@ enum btree_v2_refusal {
     /* The tree type is not 5, 6, 8 or 9. */
     BTREE_V2_UNKNOWN_RECORD_TYPE = 19,
     /* A record's length is not that of its tree type, or a value is too large for its field. */
-    BTREE_V2_RECORD_TYPE_MISMATCH = 20,
-    /* A node's version is not 0, or its type not the header's. */
-    BTREE_V2_WRONG_NODE_VERSION_OR_TYPE = 21,
-    /*
-     * A subtree has not as many records as its total says, or the tree as many as its header; or
-     * only one of the header's two numbers of records is 0.
-     */
-    BTREE_V2_TOTAL_DIFFERS = 22
+    BTREE_V2_RECORD_TYPE_MISMATCH = 20
 };
 
 /* The levels that a capacity table has: 0, that of the leaves, to 32. */
@@ -152,7 +142,7 @@ void btree_v2_parse_at(const uint8_t *file, size_t file_length, uint64_t base, u
                        uint8_t offset_size, uint8_t length_size,
                        uint64_t answer[BTREE_V2_PARSE_AT_PLACES]);
 
-/* Places of the answers of the collecting calls: counts that are given in a refused call too. */
+/* Places of the answer of btree_v2_collect: counts that are given in a refused call too. */
 enum {
     BTREE_V2_COLLECT_RECORDS = 3,          /* records put out */
     BTREE_V2_COLLECT_LEAVES = 4,           /* leaves read */
@@ -190,23 +180,6 @@ void btree_v2_collect_at(const uint8_t *file, size_t file_length,
                          const uint64_t header[BTREE_V2_HEADER_AT_FIGURES], uint8_t offset_size,
                          uint8_t *output, size_t output_length,
                          uint64_t answer[BTREE_V2_COLLECT_PLACES]);
-
-/*
- * The same from the header's base on, with every check. It accepts just the files that
- * btree_v2_collect_at accepts and that pass these tests too, with the same records and counts: a node's version is 0 and its type the header's (21); an internal node's checksum is there
- * (1) and right (6); each child that is an internal node puts out as many records as its total in
- * the pointer says (22), and the tree as many as the header says (22). A tree without records is
- * accepted, unread, only where the root's records and the records in all are both 0. Refusals in
- * this order: 18; 22, where only one of these two is 0; 8; 16; then on the way through the tree
- *   of a leaf: 1 (first 6 bytes), 2, 21, 1 (records), 1 (checksum), 6;
- *   of an internal node: 1 (first 6 bytes), 2, 21, 1 (records), 1 (pointers), 4, 1 (checksum), 6;
- *   of a record: 15; of a child that is an internal node, before the record behind it: 22;
- * and at the end 22. The records before the refusal are in the output.
- */
-void btree_v2_collect_checked(const uint8_t *file, size_t file_length,
-                              const uint64_t header[BTREE_V2_HEADER_AT_FIGURES],
-                              uint8_t offset_size, uint8_t *output, size_t output_length,
-                              uint64_t answer[BTREE_V2_COLLECT_PLACES]);
 
 /* Places of the answer of btree_v2_leaf_record. */
 enum { BTREE_V2_LEAF_RECORD_LENGTH = 1, BTREE_V2_LEAF_RECORD_PLACES = 3 };

@@ -28,8 +28,8 @@ use Rattle.btree_v2_record.specs.declared.RecordValues.{RecordValues}
 use Rattle.btree_v2_record.specs.declared.ValuesAnswer.{ValuesAnswer}
 use Rattle.btree_v2_record.specs.declared.ValuesAnswer.TheVariants as read
 use Rattle.btree_v2_record.specs.Answers.{values_of, values_answer_of}
-use Rattle.btree_v2_walk.specs.declared.Collected.{Collected}
-use Rattle.btree_v2_walk.specs.Answers.{collected_cells}
+use Rattle.btree_v2_collect.specs.declared.Collected.{Collected}
+use Rattle.btree_v2_collect.specs.Answers.{collected_cells}
 use Rattle.btree_v2_find.specs.declared.Found.{Found}
 use Rattle.btree_v2_find.specs.declared.Place.{Place}
 use Rattle.btree_v2_find.specs.declared.Place.TheVariants.{Nowhere, At}

@@ -6,14 +6,14 @@ ghost use Rattle.refusal.specs.Answer.{cells, refusal_of, put_answer_of};
 ghost use Rattle.plan.specs.Planned.{plan_answer_of};
 ghost use Rattle.btree_v2_header.specs.Answers.{header_answer_of};
 ghost use Rattle.btree_v2_record.specs.Answers.{values_answer_of};
-ghost use Rattle.btree_v2_walk.specs.Answers.{collected_cells};
+ghost use Rattle.btree_v2_collect.specs.Answers.{collected_cells};
 ghost use Rattle.btree_v2_find.specs.Answers.{found_cells};
 ghost use Rattle.numbers.specs.Places.{put};
 
+use btree_v2_collect::Collected;
 use btree_v2_find::{Found, Place};
 use btree_v2_header::HeaderAnswer;
 use btree_v2_record::ValuesAnswer;
-use btree_v2_walk::Collected;
 use plan::PlanAnswer;
 use refusal::{PutAnswer, Refusal};
 

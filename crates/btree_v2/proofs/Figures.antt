@@ -17,10 +17,9 @@ use Rattle.btree_v2_header.specs.Header.{header_figures, header_at, with_base}
 use Rattle.btree_v2_header.specs.Answers.{Parses}
 use Rattle.btree_v2_header.specs.declared.HeaderAnswer.TheVariants as header
 use Rattle.btree_v2_collect.specs.Collect.{collected, collected_at}
-use Rattle.btree_v2_walk.specs.Answers.{Ends}
-use Rattle.btree_v2_walk.specs.declared.Collected.{Collected}
-use Rattle.btree_v2_walk.specs.Walk.{Reader}
-use Rattle.btree_v2_collect.proofs.Collecting.{collected_whole}
+use Rattle.btree_v2_collect.specs.Answers.{Ends}
+use Rattle.btree_v2_collect.specs.declared.Collected.{Collected}
+use Rattle.btree_v2_collect.proofs.Bases.{collected_whole}
 use Rattle.btree_v2_find.specs.Find.{found, found_at}
 use Rattle.btree_v2_find.proofs.Bases.{found_whole}
 use Rattle.header_figures.specs.Figures.{header_from}
@@ -82,14 +81,14 @@ module _ (o n : List ℕ) (x y : Answer) (same : x ≡ y) (room : (8 ≤ length 
       let whole : stored o 0 (cells 9 x) ≡ cells 9 x = stored_whole o (cells 9 x) (omega (arith, length_cells 9 x)) in
       rw (← same, nine, front) (more ∙ rw (is, cells_snoc 8 x) whole)
 
--- Collecting, and checked collecting: any reader.
-pub read_told : (read : Reader) (file out : List ℕ) {h k : BTreeV2Header} (r : Collected) {exit : List ℕ} → h ≡ k → Ends (read file h out) r exit
-    → Ends (read file k out) r exit
-read_told read file out r e ends = rw e at ends
+-- Collecting.
+pub collect_told : (file out : List ℕ) (h k : BTreeV2Header) (r : Collected) (exit : List ℕ) → h ≡ k → Ends (collected_at file h out) r exit
+    → Ends (collected_at file k out) r exit
+collect_told file out h k r exit e ends = rw e at ends
 
 pub collect_whole : (file out : List ℕ) (h : BTreeV2Header) → InRange h → h.base ≡ 0
     → collected_at file (header_from (header_figures h ++ (h.base ∷ [])) h.geometry.offset_size) out ≡ collected file h out
-collect_whole file out h r z = rw (told_as_read h r) (collected_whole file h out z)
+collect_whole file out h r z = rw (told_as_read h r) (collected_whole h out file z)
 
 -- Finding; of seven figures the base is 0.
 module _ (file : List ℕ) (f : Field) (x : ℕ) {answer : List ℕ} where

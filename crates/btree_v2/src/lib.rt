@@ -7,17 +7,14 @@ ghost use Rattle.node_info.specs.Table.{tabled};
 ghost use Rattle.plan.specs.Planned.{plan_answer};
 ghost use Rattle.write_checks.specs.Writing.{written, header_exit, image_exit};
 ghost use Rattle.btree_v2_header.specs.Header.{parsed, parsed_at};
-ghost use Rattle.btree_v2_collect.specs.Collect.{collected, collected_at};
-ghost use Rattle.btree_v2_collect_checked.specs.Checked.{checked_at};
-ghost use Rattle.btree_v2_walk.specs.Answers.{run_cells, run_output};
+ghost use Rattle.btree_v2_collect.specs.Collect.{collected, collected_at, run_cells, run_output};
 ghost use Rattle.btree_v2_find.specs.Find.{found, found_at};
 ghost use Rattle.btree_v2_leaf_view.specs.Look.{record_answer, record_exit, record_answer_at, record_exit_at};
 ghost use Rattle.btree_v2_record.specs.Records.{record_read, record_written, record_output};
 ghost use Rattle.btree_v2.specs.Given.{asked, field_at};
 ghost use Rattle.header_figures.specs.Figures.{sizes, given, header_from};
 
-use btree_v2_collect::collect_btree_v2_records;
-use btree_v2_collect_checked::collect_checked;
+use btree_v2_collect::collect;
 use btree_v2_header::BTreeV2Header;
 use btree_v2_leaf_view::copy_leaf_record;
 use btree_v2_record::RecordValues;
@@ -168,7 +165,7 @@ pub extern "C" fn btree_v2_collect_at(
     ensures answered { answer.new ≡ run_cells (collected_at file.now (header_from header.now offset_size) output.old) }
     ensures output_left { output.new ≡ run_output (collected_at file.now (header_from header.now offset_size) output.old) }
 {
-    let collected = collect_btree_v2_records(file, header_of(header, offset_size), output);
+    let collected = collect::collect_btree_v2_records(file, header_of(header, offset_size), output);
     answers::put_collected(answer, collected);
 }
 
@@ -202,22 +199,6 @@ pub extern "C" fn btree_v2_collect(
         0,
     ];
     btree_v2_collect_at(file, &header, offset_size, output, answer);
-}
-
-// The same with every check.
-#[unsafe(no_mangle)]
-pub extern "C" fn btree_v2_collect_checked(
-    file: &[u8],
-    header: &[u64; 8],
-    offset_size: u8,
-    output: &mut [u8],
-    answer: &mut [u64; 7],
-)
-    ensures answered { answer.new ≡ run_cells (checked_at file.now (header_from header.now offset_size) output.old) }
-    ensures output_left { output.new ≡ run_output (checked_at file.now (header_from header.now offset_size) output.old) }
-{
-    let collected = collect_checked(file, header_of(header, offset_size), output);
-    answers::put_collected(answer, collected);
 }
 
 // The record with the key sought in this field, by the header that the figures tell.

@@ -15,10 +15,9 @@ use Rattle.read_checks.proofs.Plain.{no_figures, root_plain}
 use Rattle.btree_v2_header.specs.declared.BTreeV2Header.{BTreeV2Header}
 use Rattle.btree_v2_leaf.specs.Leaf.{leaf_test}
 use Rattle.btree_v2_leaf.proofs.Checksums.{test_by01, Summed, leaf_summed, EndsEarly, ends_early, leaf_changed}
-use Rattle.btree_v2_walk.specs.Walk.{Counts, Run, fine, stopped, if_passed, no_counts, with_internal, Tests, leaf_run, child_run, children_run, node_run, tree_run}
-use Rattle.btree_v2_walk.specs.Tests.{collect_tests}
-use Rattle.btree_v2_collect.specs.Collect.{collected}
-use Rattle.btree_v2_walk.proofs.Reached.{Place, node, children, run_from, child, child_and_record, run_next, Reaches, here, below, in_child, later, reached_stops}
+use Rattle.btree_v2_collect.specs.Walk.{Counts, Run, fine, stopped, if_passed, no_counts, with_internal, Tests, leaf_run, child_run, children_run, node_run}
+use Rattle.btree_v2_collect.specs.Collect.{collect_tests, collected}
+use Rattle.btree_v2_collect.proofs.Reached.{Place, node, children, run_from, child, child_and_record, run_next, Reaches, here, below, in_child, later, reached_stops}
 
 module _ (file : List ℕ) (g : Geometry) where
   -- Collecting's tests, with document 01's of a leaf.
@@ -103,8 +102,10 @@ module _ (file : List ℕ) (g : Geometry) where
 -- Collecting by document 01's test of a leaf.
 unfoldable pub collected_by01 : List ℕ → BTreeV2Header → List ℕ → Run
 collected_by01 file h out =
+    let g = h.geometry in
     or_else (not (no_records h.total_records h.num_records_in_root)) (fine no_counts out)
-    (tree_run file h (tests_by01 file h.geometry) out)
+    (if_passed (root_test g.record_size h.depth) no_counts out
+    (node_run file g (tests_by01 file g) h.depth h.root_node_address h.num_records_in_root no_counts out))
 
 module _ (file : List ℕ) (h : BTreeV2Header) (out : List ℕ) where
   abbrev rs : ℕ
@@ -123,7 +124,7 @@ module _ (file : List ℕ) (h : BTreeV2Header) (out : List ℕ) where
   -- It is refused there where the leaf ends early, and what was put out and counted before is left.
   pub collected_early : {b m : ℕ} {c1 : Counts} {o1 : List ℕ} → Reached b m c1 o1 → EndsEarly file rs b m
       → collected file h out ≡ stopped 1 (saturated (b + 10 + m * rs) ∷ length file ∷ []) c1 o1
-  unfolding collected tree_run
+  unfolding collected
   collected_early r e = rw (r.some, r.rooted) (early_stops file h.geometry r.walk e)
 
   -- It answers as by document 01's test, or reaches a leaf that ends early.
@@ -132,7 +133,7 @@ module _ (file : List ℕ) (h : BTreeV2Header) (out : List ℕ) where
     at_early : {b m : ℕ} {c1 : Counts} {o1 : List ℕ} → Reached b m c1 o1 → EndsEarly file rs b m → CollectedChanged
 
   pub collected_changed : CollectedChanged
-  unfolding collected collected_by01 tree_run
+  unfolding collected collected_by01
   collected_changed = by (no_records h.total_records h.num_records_in_root) refl (root_test rs h.depth) refl (node_changed file h.geometry h.depth _ _ no_counts out)
     where
       by : (t : Bool) → no_records h.total_records h.num_records_in_root ≡ t → (a : Answer) → root_test rs h.depth ≡ a
@@ -154,7 +155,7 @@ module _ (file : List ℕ) (h : BTreeV2Header) (out : List ℕ) where
 
   -- Where it accepts, every leaf that it reached has its checksum.
   pub collected_summed : {b m : ℕ} {c1 c : Counts} {o1 o : List ℕ} → collected file h out ≡ fine c o → Reached b m c1 o1 → Summed file rs b m
-  unfolding collected collect_tests tree_run
+  unfolding collected collect_tests
   collected_summed {b} {m} accepts r = by (leaf_test file rs b m) refl
     where
       by : (t : Answer) → leaf_test file rs b m ≡ t → Summed file rs b m

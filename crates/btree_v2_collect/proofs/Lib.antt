@@ -1,3 +1,18 @@
--- The laws that the crate's proofs and the crates above cite.
-pub mod Collecting
+-- The laws that the crate's proofs cite.
+mod Calls
+pub mod Bases
+pub mod Reached
 pub mod Changed
+mod Holding
+mod Putting
+mod Steps
+pub mod Nodes
+pub mod Walking
+pub mod Outcomes
+pub mod Fronts
+pub mod Puts
+pub mod Sound
+pub mod Balance
+pub mod InFile
+pub mod Tested
+pub mod Places

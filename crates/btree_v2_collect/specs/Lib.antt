@@ -1,2 +1,6 @@
 -- The definitions that the contracts of the crate cite.
+pub mod Answers
+pub mod Collecting
+pub mod Walk
+pub mod InFile
 pub mod Collect

@@ -12,9 +12,9 @@ use Rattle.read_checks.specs.Base.{base_test}
 use Rattle.read_checks.proofs.Base.{on_part_within, on_part_beyond, on_part_whole, on_part_behind, lent_part, base_within, base_beyond, refused_by_18}
 use Rattle.field.specs.declared.Field.{Field}
 use Rattle.btree_v2_header.specs.declared.BTreeV2Header.{BTreeV2Header}
-use Rattle.btree_v2_walk.specs.Walk.{Counts, fine}
+use Rattle.btree_v2_collect.specs.Walk.{Counts, fine}
 use Rattle.btree_v2_collect.specs.Collect.{collected_at}
-use Rattle.btree_v2_collect.proofs.Collecting.{accepts_part}
+use Rattle.btree_v2_collect.proofs.Bases.{accepts_part}
 use Rattle.btree_v2_find.specs.Find.{last_with, place_found, find_cells, found, found_at}
 use Rattle.btree_v2_find.specs.Answers.{found_cells}
 use Rattle.btree_v2_find.specs.Sorted.{NeverFall, record_size, HasKey, FindsFirst}

@@ -21,7 +21,7 @@ use Rattle.field.specs.Field.{number_field}
 use Rattle.read_checks.specs.Tests.{no_records, root_test}
 use Rattle.read_checks.proofs.Root.{root_passed}
 use Rattle.btree_v2_header.specs.declared.BTreeV2Header.{BTreeV2Header}
-use Rattle.btree_v2_walk.specs.Tests.{collect_tests}
+use Rattle.btree_v2_collect.specs.Collect.{collect_tests}
 use Rattle.btree_v2_find.specs.Find.{last_with, Descent, ended, on_passed, descent, key_test, descended, place_found, find_cells, found}
 use Rattle.btree_v2_find.specs.Answers.{found_cells}
 use Rattle.btree_v2_find.specs.Descending.{EndedBy, Widths, RootSought}

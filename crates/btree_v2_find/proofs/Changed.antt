@@ -15,8 +15,8 @@ use Rattle.read_checks.proofs.Plain.{no_figures, root_plain}
 use Rattle.btree_v2_header.specs.declared.BTreeV2Header.{BTreeV2Header}
 use Rattle.btree_v2_leaf.specs.Leaf.{leaf_test}
 use Rattle.btree_v2_leaf.proofs.Checksums.{test_by01, Summed, leaf_summed, checksum_missing, EndsEarly, ends_early, leaf_changed}
-use Rattle.btree_v2_walk.specs.Walk.{Tests, pointer_to, address_in, records_in}
-use Rattle.btree_v2_walk.specs.Tests.{collect_tests}
+use Rattle.btree_v2_collect.specs.Walk.{Tests, pointer_to, address_in, records_in}
+use Rattle.btree_v2_collect.specs.Collect.{collect_tests}
 use Rattle.btree_v2_collect.proofs.Changed.{tests_by01}
 use Rattle.btree_v2_find.proofs.Everywhere.{key_plain}
 use Rattle.btree_v2_find.specs.Find.{Descent, ended, on_passed, bound, descent, key_test, descended}

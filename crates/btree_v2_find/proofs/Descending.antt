@@ -20,10 +20,10 @@ use Rattle.btree_v2_leaf.proofs.Leaves.{leaf_there}
 use Rattle.btree_v2_internal.specs.declared.Node.{Node}
 use Rattle.btree_v2_internal.specs.Internal.{internal_test}
 use Rattle.btree_v2_internal.specs.Pointers.{address_at, records_at}
-use Rattle.btree_v2_walk.specs.InFile.{at_child}
-use Rattle.btree_v2_walk.specs.Tests.{collect_tests}
-use Rattle.btree_v2_walk.specs.Collecting.{NodeThere}
-use Rattle.btree_v2_walk.proofs.Nodes.{tested_by, child_by, leaf_by, there_by}
+use Rattle.btree_v2_collect.specs.InFile.{at_child}
+use Rattle.btree_v2_collect.specs.Collect.{collect_tests}
+use Rattle.btree_v2_collect.specs.Collecting.{NodeThere}
+use Rattle.btree_v2_collect.proofs.Nodes.{tested_by, child_by, leaf_tested, node_there}
 use Rattle.btree_v2_find.specs.Find.{one_of, last_with, Descent, ended, on_passed, behind, bound, bounding, descent, place_found, find_cells}
 use Rattle.btree_v2_find.specs.Answers.{place_of, found_cells}
 use Rattle.btree_v2_find.specs.Descending.{Searched, EndedBy, Widths, GoesOn}
@@ -114,7 +114,7 @@ module _ (file : List ℕ) (g : Geometry) (f : Field) (x depth : ℕ) (root : No
 
       module _ (passed : v ≡ Accepted) where
         there : NodeThere file g a n
-        there = there_by file g u a n (sym tested ∙ ap verdict_of passed)
+        there = node_there file g u a n v tested passed
 
         pub internal_searched : Searched file g f a n
         internal_searched = record { records = there.records; key = key }
@@ -142,7 +142,7 @@ module _ (file : List ℕ) (g : Geometry) (f : Field) (x depth : ℕ) (root : No
       ends = let least : level ≡ 0 = omega arith in ap (λ k. down k a n) least
 
       leaf : verdict_of v ≡ (collect_tests file g).leaf a n
-      leaf = leaf_by file g a n v code
+      leaf = leaf_tested file g a n v code
 
       pub leaf_stops : (q : Refusal) → v ≡ Refused q → (r : Found) → EndedBy v depth r → found_cells r ≡ find_cells file f x whole
       leaf_stops q e r is =

@@ -18,10 +18,10 @@ use Rattle.read_checks.proofs.Plain.{Plain, accepts, refuses, plain_or, root_pla
 use Rattle.btree_v2_header.specs.declared.BTreeV2Header.{BTreeV2Header}
 use Rattle.btree_v2_leaf.proofs.Records.{leaf_plain}
 use Rattle.btree_v2_internal.proofs.Nodes.{internal_plain}
-use Rattle.btree_v2_walk.specs.Walk.{record_place}
-use Rattle.btree_v2_walk.specs.Tests.{collect_tests}
-use Rattle.btree_v2_walk.proofs.Nodes.{record_there}
-use Rattle.btree_v2_walk.proofs.Tested.{collecting_there}
+use Rattle.btree_v2_collect.specs.Walk.{record_place}
+use Rattle.btree_v2_collect.specs.Collect.{collect_tests}
+use Rattle.btree_v2_collect.proofs.Nodes.{record_there}
+use Rattle.btree_v2_collect.proofs.Tested.{collecting_there}
 use Rattle.btree_v2_find.specs.Find.{last_with, Descent, ended, on_passed, bound, bounding, descent, key_test, descended, place_found, place_cells, find_cells, found}
 use Rattle.btree_v2_find.specs.Sorted.{record_size, answered}
 use Rattle.btree_v2_find.specs.Refusals.{nodes_on, RefusedAfter, here, below, RefusedBy, before_root, at_key, at_node}

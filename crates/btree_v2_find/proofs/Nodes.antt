@@ -15,9 +15,9 @@ use Rattle.refusal.specs.Answer.{accepted}
 use Rattle.node_info.specs.declared.Geometry.{Geometry}
 use Rattle.field.specs.declared.Field.{Field}
 use Rattle.field.specs.Field.{number_at}
-use Rattle.btree_v2_walk.specs.Walk.{Tests, record_place}
-use Rattle.btree_v2_walk.specs.InFile.{at_child, tree_at, places_from, children_places, places_at, ChildSound, Sound}
-use Rattle.btree_v2_walk.proofs.InFile.{between_kids, child_sound}
+use Rattle.btree_v2_collect.specs.Walk.{Tests, record_place}
+use Rattle.btree_v2_collect.specs.InFile.{at_child, tree_at, places_from, children_places, places_at, ChildSound, Sound}
+use Rattle.btree_v2_collect.proofs.InFile.{between_kids, child_sound}
 use Rattle.btree_v2_find.specs.Find.{one_of, bound_from, last_with, bound, bounding, descent}
 use Rattle.btree_v2_find.proofs.Keys.{first_with, one_nil, last_append, bound_from_lem, Rising, split, first_after, first_up_to}
 

@@ -15,8 +15,8 @@ use Rattle.node_info.specs.declared.Geometry.{Geometry}
 use Rattle.field.specs.declared.Field.{Field}
 use Rattle.field.specs.Field.{number_at}
 use Rattle.field.proofs.Fields.{field_fits, number_is}
-use Rattle.btree_v2_walk.specs.Walk.{record_place}
-use Rattle.btree_v2_walk.proofs.Nodes.{record_there}
+use Rattle.btree_v2_collect.specs.Walk.{record_place}
+use Rattle.btree_v2_collect.proofs.Nodes.{record_there}
 use Rattle.btree_v2_find.specs.Find.{one_of, bound_from, last_with, bound, bounding}
 use Rattle.btree_v2_find.specs.Descending.{Searched}
 

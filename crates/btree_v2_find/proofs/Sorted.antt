@@ -17,15 +17,13 @@ use Rattle.field.specs.Field.{number_field, number_at}
 use Rattle.field.proofs.Fields.{field_fits, number_same}
 use Rattle.read_checks.specs.Tests.{no_records, root_test}
 use Rattle.btree_v2_header.specs.declared.BTreeV2Header.{BTreeV2Header}
-use Rattle.btree_v2_walk.specs.Walk.{Counts, Run, fine, if_passed, no_counts, Tests}
-use Rattle.btree_v2_walk.specs.InFile.{places_at, records_at}
-use Rattle.btree_v2_collect.specs.Collect.{collected}
-use Rattle.btree_v2_walk.specs.Tests.{collect_tests}
-use Rattle.btree_v2_walk.proofs.InFile.{RecordsThere, Done, walk_done}
-use Rattle.btree_v2_collect.proofs.Collecting.{collected_empty, collected_root, collected_fine}
-use Rattle.btree_v2_walk.proofs.Outcomes.{tree_fine}
-use Rattle.btree_v2_walk.proofs.Places.{PutOut, put_out_lem, put_each_lem}
-use Rattle.btree_v2_walk.proofs.Tested.{collecting_there}
+use Rattle.btree_v2_collect.specs.Walk.{Counts, Run, fine, if_passed, no_counts, Tests}
+use Rattle.btree_v2_collect.specs.InFile.{places_at, records_at}
+use Rattle.btree_v2_collect.specs.Collect.{collect_tests, collected}
+use Rattle.btree_v2_collect.proofs.InFile.{RecordsThere, Done, walk_done}
+use Rattle.btree_v2_collect.proofs.Outcomes.{collected_empty, collected_root, collected_fine}
+use Rattle.btree_v2_collect.proofs.Places.{PutOut, put_out_lem, put_each_lem}
+use Rattle.btree_v2_collect.proofs.Tested.{collecting_there}
 use Rattle.btree_v2_find.specs.Find.{Descent, on_passed, last_with, descent, key_test, descended, place_found, found}
 use Rattle.btree_v2_find.specs.Sorted.{key_of, NeverFall, First, None, places_of, record_size, HasKey, answered, FindsFirst, FindsInOrder}
 use Rattle.btree_v2_find.proofs.Calls.{descended_empty, descended_some, descended_by}
@@ -124,9 +122,11 @@ module _ (file : List ℕ) (h : BTreeV2Header) (f : Field) (x : ℕ) where
 
     descended_is : descended file h f x ≡ down
     unfolding key_test
-    descended_is =
-        let tree = tree_fine file h tests out c o (sym (collected_root file h out some) ∙ e) in
-        descended_some file h f x some ∙ rw (field, tree.rooted)
+    descended_is = descended_some file h f x some ∙ rw field (past (root_test rs h.depth) _ (sym (collected_root file h out some) ∙ e))
+      where
+        past : (a : Answer) (r : Run) → if_passed a no_counts out r ≡ fine c o → on_passed a down ≡ down
+        past (accepted figures) r passes = refl
+        past (refused number values) r passes = cc
 
     walked : Done file g tests there h.depth h.root_node_address h.num_records_in_root no_counts out c o
     walked = walk_done file g tests there h.depth _ _ no_counts out c o (rw zero-mul zero-le) (collected_fine file h out some c o e)

@@ -17,8 +17,8 @@ use Rattle.btree_v2_header.specs.Header.{with_base}
 use Rattle.btree_v2_header.specs.declared.BTreeV2Header.{BTreeV2Header}
 use Rattle.btree_v2_internal.specs.Internal.{pointer_place, child_address, child_records, internal_body, internal_test}
 use Rattle.btree_v2_leaf.specs.Leaf.{leaf_body, leaf_test}
-use Rattle.btree_v2_walk.specs.Walk.{Tests}
-use Rattle.btree_v2_walk.specs.Tests.{collect_tests}
+use Rattle.btree_v2_collect.specs.Walk.{Tests}
+use Rattle.btree_v2_collect.specs.Collect.{collect_tests}
 use Rattle.btree_v2_find.specs.Find.{bound_from, last_with, Descent, ended, bound, bounding, descent, key_test, descended, place_found, find_cells, found_at}
 use Rattle.btree_v2_find.specs.Refusals.{NodeAt, nodes_on}
 use Rattle.btree_v2_find.proofs.Keys.{first_with}

@@ -9,7 +9,7 @@ use Rattle.field.specs.declared.Field.{Field}
 use Rattle.field.specs.Field.{number_field, number_at}
 use Rattle.read_checks.specs.Tests.{no_records, root_test}
 use Rattle.btree_v2_header.specs.declared.BTreeV2Header.{BTreeV2Header}
-use Rattle.btree_v2_walk.specs.Walk.{record_place}
+use Rattle.btree_v2_collect.specs.Walk.{record_place}
 use Rattle.btree_v2_find.specs.Find.{Descent, one_of, last_with}
 use Rattle.btree_v2_find.specs.Answers.{place_of}
 use Rattle.btree_v2_find.specs.declared.Found.{Found}

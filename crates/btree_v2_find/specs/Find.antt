@@ -8,9 +8,9 @@ use Rattle.field.specs.Field.{number_field, number_at}
 use Rattle.read_checks.specs.Base.{on_part}
 use Rattle.read_checks.specs.Tests.{no_records, root_test}
 use Rattle.btree_v2_header.specs.declared.BTreeV2Header.{BTreeV2Header}
-use Rattle.btree_v2_walk.specs.Walk.{Tests, record_place}
-use Rattle.btree_v2_walk.specs.InFile.{at_child}
-use Rattle.btree_v2_walk.specs.Tests.{collect_tests}
+use Rattle.btree_v2_collect.specs.Walk.{Tests, record_place}
+use Rattle.btree_v2_collect.specs.InFile.{at_child}
+use Rattle.btree_v2_collect.specs.Collect.{collect_tests}
 
 -- The first of two lists, the second where that is empty.
 abbrev pub one_of : List ℕ → List ℕ → List ℕ

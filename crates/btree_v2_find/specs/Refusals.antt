@@ -5,9 +5,9 @@ use Rattle.node_info.specs.declared.Geometry.{Geometry}
 use Rattle.field.specs.declared.Field.{Field}
 use Rattle.read_checks.specs.Tests.{root_test}
 use Rattle.btree_v2_header.specs.declared.BTreeV2Header.{BTreeV2Header}
-use Rattle.btree_v2_walk.specs.Walk.{Tests}
-use Rattle.btree_v2_walk.specs.InFile.{at_child}
-use Rattle.btree_v2_walk.specs.Tests.{collect_tests}
+use Rattle.btree_v2_collect.specs.Walk.{Tests}
+use Rattle.btree_v2_collect.specs.InFile.{at_child}
+use Rattle.btree_v2_collect.specs.Collect.{collect_tests}
 use Rattle.btree_v2_find.specs.Find.{bound, key_test}
 use Rattle.btree_v2_find.specs.Sorted.{record_size}
 

@@ -6,8 +6,8 @@ use Rattle.field.specs.declared.Field.{Field}
 use Rattle.field.specs.Field.{number_field, number_at}
 use Rattle.btree_v2_header.specs.declared.BTreeV2Header.{BTreeV2Header}
 use Rattle.read_checks.specs.Tests.{no_records}
-use Rattle.btree_v2_walk.specs.Walk.{Counts, fine}
-use Rattle.btree_v2_walk.specs.InFile.{places_at, records_at}
+use Rattle.btree_v2_collect.specs.Walk.{Counts, fine}
+use Rattle.btree_v2_collect.specs.InFile.{places_at, records_at}
 use Rattle.btree_v2_collect.specs.Collect.{collected}
 use Rattle.btree_v2_find.specs.Find.{place_found, descended}
 

@@ -2,7 +2,7 @@
 
 ghost use Rattle.std.specs.Prelude.{◌≡◌, true};
 ghost use Rattle.field.specs.Field.{number_field, number_at};
-ghost use Rattle.btree_v2_walk.specs.Tests.{collect_tests};
+ghost use Rattle.btree_v2_collect.specs.Collect.{collect_tests};
 ghost use Rattle.btree_v2_find.specs.Find.{one_of, last_with, bound, bounding, descent, find_cells, found, found_at};
 ghost use Rattle.btree_v2_find.specs.Answers.{place_of, found_cells};
 ghost use Rattle.btree_v2_find.specs.Descending.{Searched, EndedBy, Widths, RootSought};

@@ -1,12 +1,10 @@
-// Internal nodes: their tests, of the front, which every node has, and of the body, and with every check of the version, the type and the
-// checksum; and the child that a pointer leads to, with the total of its subtree.
+// Internal nodes: their tests, of the front, which every node has, and of the body; and the child that a pointer leads to.
 
 ghost use Rattle.std.specs.Prelude.{◌≡◌, ◌<◌};
-ghost use Rattle.numbers.specs.Numbers.{saturated};
 ghost use Rattle.refusal.specs.Answer.{verdict_of};
 ghost use Rattle.node_info.specs.Capacity.{child_pointer_size};
-ghost use Rattle.btree_v2_internal.specs.Internal.{internal_body, internal_sum, internal_test, checked_internal};
-ghost use Rattle.btree_v2_internal.specs.Pointers.{pointer_at, address_at, records_at, total_at};
+ghost use Rattle.btree_v2_internal.specs.Internal.{internal_body, internal_test};
+ghost use Rattle.btree_v2_internal.specs.Pointers.{address_at, records_at};
 
 use node_info::Geometry;
 use refusal::{Refusal, Verdict};
@@ -43,50 +41,6 @@ pub fn check_internal(
     check_body(file, geometry, count_size, total_size, node)
 }
 
-// An internal node's tests with every check.
-pub fn check_internal_of_type(
-    file: &[u8],
-    geometry: Geometry,
-    count_size: u8,
-    total_size: u8,
-    tree_type: u8,
-    node: Node,
-) -> Verdict
-    ensures { verdict_of result ≡ checked_internal file.now tree_type geometry.record_size geometry.offset_size
-        (child_pointer_size geometry count_size total_size) node.address node.records }
-{
-    let begun = read_checks::check_front(file, node.address, b'I', b'N');
-    let Verdict::Accepted = begun else {
-        return begun;
-    };
-    let marked = read_checks::check_version_and_type(file, node.address, tree_type);
-    let Verdict::Accepted = marked else {
-        return marked;
-    };
-    let body = check_body(file, geometry, count_size, total_size, node);
-    let Verdict::Accepted = body else {
-        return body;
-    };
-    check_sum(file, geometry, count_size, total_size, node)
-}
-
-// The checksum behind the pointers: its 4 bytes are there, and it is right.
-fn check_sum(file: &[u8], geometry: Geometry, count_size: u8, total_size: u8, node: Node) -> Verdict
-    ensures { verdict_of result ≡ internal_sum file.now geometry.record_size
-        (child_pointer_size geometry count_size total_size) node.address node.records }
-{
-    let geometry = geometry;
-    let rest = numbers::part(file, node.address, file.len() as u64);
-    let bytes = (node.records as u64) * (geometry.record_size as u64);
-    let each = pointer_size(geometry, count_size, total_size);
-    let end = format::PREFIX_SIZE + bytes + ((node.records as u64) + 1) * each;
-    let there = read_checks::ensure_len(rest, end, 4);
-    let Verdict::Accepted = there else {
-        return there;
-    };
-    read_checks::check_checksum(rest, 0, end as usize)
-}
-
 // The tests after those of the front: the records and the pointers are there, and offsets have one of the sizes.
 pub fn check_body(
     file: &[u8],
@@ -117,19 +71,7 @@ pub fn check_body(
     Verdict::Refused(Refusal::InvalidOffsetSize(geometry.offset_size))
 }
 
-// The place of pointer i of an internal node. One that is saturated at 2^64 - 1 is past the end of every file.
-fn pointer_place(geometry: Geometry, count_size: u8, total_size: u8, node: Node, i: u16) -> u64
-    ensures { result ≡ saturated (pointer_at geometry count_size total_size node i) }
-{
-    let geometry = geometry;
-    let bytes = (node.records as u64) * (geometry.record_size as u64);
-    let before = format::PREFIX_SIZE
-        + bytes
-        + (i as u64) * pointer_size(geometry, count_size, total_size);
-    numbers::saturating_add(node.address, before)
-}
-
-// The child that pointer i of an internal node leads to.
+// The child that pointer i of an internal node leads to. A place that is saturated at 2^64 - 1 is past the end of every file.
 pub fn read_pointer(
     file: &[u8],
     geometry: Geometry,
@@ -141,7 +83,11 @@ pub fn read_pointer(
     ensures { (result.address ≡ address_at file.now geometry count_size total_size node i) × (result.records ≡ records_at file.now geometry count_size total_size node i) }
 {
     let geometry = geometry;
-    let at = pointer_place(geometry, count_size, total_size, node, i);
+    let bytes = (node.records as u64) * (geometry.record_size as u64);
+    let before = format::PREFIX_SIZE
+        + bytes
+        + (i as u64) * pointer_size(geometry, count_size, total_size);
+    let at = numbers::saturating_add(node.address, before);
     let next = numbers::saturating_add(at, geometry.offset_size as u64);
     let address = numbers::read_le(file, at as usize, geometry.offset_size as usize);
     let count = numbers::read_le(file, next as usize, count_size as usize);
@@ -149,22 +95,4 @@ pub fn read_pointer(
         address,
         records: (count % 65536) as u16,
     }
-}
-
-// The total of the subtree that pointer i of an internal node leads to.
-pub fn read_total(
-    file: &[u8],
-    geometry: Geometry,
-    count_size: u8,
-    total_size: u8,
-    node: Node,
-    i: u16,
-) -> u64
-    ensures { result ≡ total_at file.now geometry count_size total_size node i }
-{
-    let geometry = geometry;
-    let at = pointer_place(geometry, count_size, total_size, node, i);
-    let before = (geometry.offset_size as u64) + (count_size as u64);
-    let from = numbers::saturating_add(at, before);
-    numbers::read_le(file, from as usize, total_size as usize)
 }

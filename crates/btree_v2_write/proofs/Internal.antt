@@ -275,10 +275,10 @@ module _ (o : List ℕ) (q : Request) (to₀ : Progress) (x₀ : InternalNode) w
             rest = λ z end g. inv.rest z end (rw pointer_left (filled_then (omega (arith, pointer_room)) f g));
           }
 
-  pub pointers_end_lem : (d : List ℕ) (to : Progress) (next i : ℕ) → Left d to next i → kept < i
+  pub pointers_end : (d : List ℕ) (to : Progress) (next i : ℕ) → Left d to next i → kept < i
       → Filled o d to₀ (pointers_to q w t (children_of x₀) x₀.first_node) to
   unfolding pointers_to
-  pointers_end_lem d to next i inv h =
+  pointers_end d to next i inv h =
       inv.rest d to (rw (from_end (kept + 1) x₀.extra x₀.large x₀.small i (omega arith)) (filled_nothing d to))
 
 -- How many fields the parts have, and how many bytes.

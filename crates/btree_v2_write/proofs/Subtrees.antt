@@ -480,14 +480,14 @@ module _ {q : Request} {cs : ℕ} {most totals recs : List ℕ} {depth n j r k b
       children_done =
           let node = first_ready inv.distributed e in
           let long = length_subtree recs node in
-          let total_is = first.child.total ∙ planned_records (capacities q) d m node.thick in
+          let total-is = first.child.total ∙ planned_records (capacities q) d m node.thick in
           let own = subtree_image q recs d m j r in
           let after = images q recs d (rest 1) (j + subtree_nodes q d m) (r + m + 1) in
           let left = rw none_left at inv.left in
           let ends : (j + subtree_nodes q d m) * q.geometry.node_size ≡ j * q.geometry.node_size + length own = rw long (omega arith) in
           sym (stored_nil o (next * q.geometry.node_size))
           ∙ left
-          ∙ rw (first.child.nodes, total_is, first.image, stored_turn o₀ _ _ own after (omega (arith, node.room, same)) ends, first_left inv.distributed e)
+          ∙ rw (first.child.nodes, total-is, first.image, stored_turn o₀ _ _ own after (omega (arith, node.room, same)) ends, first_left inv.distributed e)
 
       -- The root is filled over what was lent.
       pub root_lent : drop (next * q.geometry.node_size) o ≡ drop (next * q.geometry.node_size) o₀

@@ -1,9 +1,7 @@
 // Runs lists of known answers through the libraries; a line for each list says how many agreed and how many differed.
-// A part of the format has two modules here: NAME_answers holds the list, NAME_replay runs it and returns its tally; collect_replay runs the
-// list of checked_answers too. The functions that compare an answer with a row (`agrees`, `leaves`, `leaf`, `are`), `header`, which makes a
-// call's input of one, and `collect`, which makes one call or the other, promise nothing of their result: the answers due stand in the code
-// alone, so a contract could only repeat it. `print` and `main` write, of which no contract speaks.
-mod checked_answers;
+// A part of the format has two modules here: NAME_answers holds the list, NAME_replay runs it and returns its tally. The functions that
+// compare an answer with a row (`agrees`, `leaves`, `leaf`, `are`), and `header`, which makes a call's input of one, promise nothing of their
+// result: the answers due stand in the code alone, so a contract could only repeat it. `print` and `main` write, of which no contract speaks.
 mod checksum_answers;
 mod checksum_replay;
 mod collect_answers;
@@ -34,7 +32,6 @@ fn main() {
     header_replay::stored().print(b"header, stored answers");
     collect_replay::stored().print(b"collect, stored answers");
     collect_replay::ends().print(b"collect, ends of a leaf");
-    collect_replay::stored_checked().print(b"checked collecting, stored answers");
     find_replay::stored().print(b"find, stored answers");
     look_replay::stored().print(b"look, stored answers");
     record_read_replay::stored().print(b"record read, stored answers");

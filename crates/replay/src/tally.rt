@@ -38,17 +38,6 @@ impl Tally {
         }
     }
 
-    // The answers of two parts of a list.
-    pub(crate) fn plus(self, other: Tally) -> Self
-        requires { self.agreed + self.differed + other.agreed + other.differed < 65536 }
-        ensures { (result.agreed ≡ self.agreed + other.agreed) × (result.differed ≡ self.differed + other.differed) }
-    {
-        Tally {
-            agreed: self.agreed + other.agreed,
-            differed: self.differed + other.differed,
-        }
-    }
-
     // Writes the list's name and the two counts, as a line.
     pub(crate) fn print(self, name: &[u8]) {
         io::write_all(STDOUT_FILENO, name);

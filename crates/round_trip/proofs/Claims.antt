@@ -1,7 +1,6 @@
 -- Demand 3 on the three calls, from the complete return of records on the definitions.
 use mathlib.Core.Path.{◌≡◌, refl, sym, ◌∙◌, ap}
 use mathlib.Core.Logic.{⊎_elim}
-use mathlib.Core.Bool.{Bool, true, false}
 use mathlib.Core.List.{List, [], ◌∷◌, ◌++◌}
 use Prim.Native.Nat.{ℕ, ◌+◌, ◌-◌, ◌*◌, ◌≤◌, ◌<◌}
 use native.Mathlib.Nat.{zero-mul, eq-zero-or-pos}
@@ -23,44 +22,42 @@ use Rattle.format.specs.Bytes.{header_size, address}
 use Rattle.format.specs.Request.{depth_of, tree_of, nodes_of, root_of, root_records_of, header_from, image_of}
 use Rattle.write_checks.specs.Writing.{written, header_exit, image_exit}
 use Rattle.numbers.specs.Places.{over}
-use Rattle.btree_v2_walk.specs.Walk.{Counts, Run, fine, stopped, no_counts, Reader, read_at}
-use Rattle.btree_v2_walk.proofs.Bases.{read_in_part}
+use Rattle.btree_v2_collect.specs.Walk.{Counts, Run, fine, stopped, no_counts}
 use Rattle.btree_v2_header.specs.Header.{header_figures, header_at, with_base, carrying, parsed, parsed_at}
 use Rattle.btree_v2_header.proofs.Bases.{parsed_in_part}
-use Rattle.btree_v2_collect.specs.Collect.{collected_at}
-use Rattle.btree_v2_collect_checked.specs.Checked.{checked_at}
-use Rattle.btree_v2_walk.specs.Answers.{run_cells, run_output, count_cells}
+use Rattle.btree_v2_collect.proofs.Bases.{collected_in_part, collected_based}
+use Rattle.btree_v2_collect.specs.Collect.{collected, collected_at, run_cells, run_output, count_cells}
 use Rattle.round_trip.specs.Return.{header_written, Returned}
 use Rattle.write_checks.proofs.Accepted.{Accepts, accepts, plan_accepted}
 use Rattle.write_checks.proofs.Fitting.{image_long}
 use Rattle.format.proofs.HeaderLengths.{length_header_from}
 use Rattle.write_checks.proofs.Outputs.{header-put, image_put}
-use Rattle.round_trip.proofs.Returned.{Returning, returning, returns, returns_header, returns_fields}
+use Rattle.round_trip.proofs.Returned.{returns, returns_header, returns_fields, returns_none}
 use Rattle.btree_v2_header.specs.declared.BTreeV2Header.{BTreeV2Header}
 use Rattle.btree_v2_header.specs.declared.HeaderAnswer.{HeaderAnswer}
 use Rattle.btree_v2_header.specs.declared.HeaderAnswer.TheVariants as header
 use Rattle.refusal.specs.declared.Verdict.{Verdict}
 use Rattle.refusal.specs.declared.Verdict.TheVariants as verdict
-use Rattle.btree_v2_walk.specs.declared.Tally.{Tally}
-use Rattle.btree_v2_walk.specs.declared.Collected.{Collected}
+use Rattle.btree_v2_collect.specs.declared.Tally.{Tally}
+use Rattle.btree_v2_collect.specs.declared.Collected.{Collected}
 use Rattle.btree_v2_header.specs.Answers.{header_answer_of, Parses}
-use Rattle.btree_v2_walk.specs.Answers.{collected_cells}
+use Rattle.btree_v2_collect.specs.Answers.{collected_cells}
 use Rattle.round_trip.specs.declared.RoundTrip.{RoundTrip}
 use Rattle.round_trip.specs.Nodes.{node_records}
-use Rattle.round_trip.specs.ThreeCalls.{Lent, part_of, on_parsed, reader_by, Collects, Holds, NodesCounted, Complete, Answered}
+use Rattle.round_trip.specs.ThreeCalls.{Lent, part_of, on_parsed, Collects, Holds, NodesCounted, Complete, Answered}
 use Rattle.round_trip.proofs.Roots.{root_address, root_records_lem}
 
--- Reading the tree by the header reader's definition: the tree of the header there, or its refusal.
-abbrev on_header : Reader → Answer → BTreeV2Header → List ℕ → List ℕ → Run
-on_header reader (accepted figures) h file output = read_at reader file h output
-on_header reader (refused number values) h file output = stopped number values no_counts output
+-- Collecting by the header reader's definition: the tree of the header there, or its refusal.
+abbrev on_header : Answer → BTreeV2Header → List ℕ → List ℕ → Run
+on_header (accepted figures) h file output = collected_at file h output
+on_header (refused number values) h file output = stopped number values no_counts output
 
--- The header reader at the place, and the reader of the tree on its answer.
-read_back : Reader → Request → Lent → Run
-read_back reader q s =
+-- The header reader at the place, and the collector on its answer.
+read_back : Request → Lent → Run
+read_back q s =
     let ow = q.geometry.offset_size in
     let lw = q.length_size in
-    on_header reader (parsed_at s.file s.base s.place ow lw) (with_base s.base (header_at (part_of s) s.place ow lw)) s.file s.output
+    on_header (parsed_at s.file s.base s.place ow lw) (with_base s.base (header_at (part_of s) s.place ow lw)) s.file s.output
 
 -- An accepted walk's cells: the verdict accepts, and each count is the walk's, saturated.
 record CellsSay (v : Verdict) (t : Tally) (c : Counts) : Type 0 where
@@ -155,14 +152,14 @@ module _ (q : Request) (p : BTreeV2Plan) (s : Lent) (ok : written q s.records s.
   filled = s.records ++ drop (q.record_count * q.geometry.record_size) s.output
 
   module _ (r : RoundTrip) (o : List ℕ) (read : header_answer_of r.header ≡ parsed_at s.file s.base s.place q.geometry.offset_size q.length_size)
-      (reader : Reader) (gives : Returning reader) (run : Collects (read_back reader q s) r.collected o) where
+      (run : Collects (read_back q s) r.collected o) where
     -- All but the counts, where collecting ends with the records put out.
-    module _ (c : Counts) (ends : reader (part_of s) (header_written q) s.output ≡ fine c filled) (all : c.records ≡ q.record_count) where
-      whole : read_back reader q s ≡ fine c filled
+    module _ (c : Counts) (ends : collected (part_of s) (header_written q) s.output ≡ fine c filled) (all : c.records ≡ q.record_count) where
+      whole : read_back q s ≡ fine c filled
       unfolding read_back
       whole =
           rw (header_back, header_there)
-          (read_in_part reader (with_base s.base (header_written q)) s.output s.file within ∙ gives.based (part_of s) (header_written q) s.output s.base ∙ ends)
+          (collected_in_part (with_base s.base (header_written q)) s.output s.file within ∙ collected_based (part_of s) (header_written q) s.base s.output ∙ ends)
 
       tells : CellsSay r.collected.verdict r.collected.tally c
       unfolding run_cells
@@ -188,8 +185,8 @@ module _ (q : Request) (p : BTreeV2Plan) (s : Lent) (ok : written q s.records s.
     none_complete z =
         let empty : s.records ≡ [] = no_bytes s.records (rw (z, zero-mul) at accept.records) in
         let same-output : s.output ≡ filled = rw (empty, z, zero-mul) in
-        let ends : reader (part_of s) (header_written q) s.output ≡ fine no_counts filled =
-        gives.none q (part_of s) s.output z ∙ ap (fine no_counts) same-output
+        let ends : collected (part_of s) (header_written q) s.output ≡ fine no_counts filled =
+        returns_none q s.records s.header s.image (figures_of p) ok small (part_of s) s.place s.output z ∙ ap (fine no_counts) same-output
         in
         with_counts no_counts ends (sym z) (λ some. absurd (omega arith))
 
@@ -200,9 +197,9 @@ module _ (q : Request) (p : BTreeV2Plan) (s : Lent) (ok : written q s.records s.
           ∙ rw (image, image_put q s.records s.header s.image (figures_of p) ok)
           (front_over (image_of q s.records) s.image (nodes_of q * q.geometry.node_size) (image_long q s.records accept some))
 
-      back : Returned reader q s.records (part_of s) s.place s.output
+      back : Returned q s.records (part_of s) s.place s.output
       back =
-          returns q s.records s.header s.image (figures_of p) ok small (part_of s) s.place reader gives s.output some
+          returns q s.records s.header s.image (figures_of p) ok small (part_of s) s.place s.output some
           (record { header = header_stands; nodes = image_stands }) long
 
       some_complete : Complete q p s r o
@@ -221,50 +218,42 @@ module _ (q : Request) (p : BTreeV2Plan) (s : Lent) (ok : written q s.records s.
     complete = ⊎_elim none_complete some_complete (eq-zero-or-pos q.record_count)
 
 -- `collect_parsed`, by the header reader's answer.
-module _ (file out : List ℕ) (p : HeaderAnswer) (every : Bool) where
-  module _ (found : BTreeV2Header) (c : Collected) (o : List ℕ) (e : p ≡ header.Parsed found) where
-    pub collects_checked : every ≡ true → (collected_cells c ≡ run_cells (checked_at file found out)) × (o ≡ run_output (checked_at file found out))
-        → Collects (on_parsed (reader_by every) p file out) c o
-    unfolding checked_at
-    collects_checked is ends = rw (e, is) (record { cells = ends.0; output = ends.1 })
+module _ (file out : List ℕ) (p : HeaderAnswer) where
+  pub collects_parsed : (found : BTreeV2Header) (c : Collected) (o : List ℕ) → p ≡ header.Parsed found
+      → collected_cells c ≡ run_cells (collected_at file found out) → o ≡ run_output (collected_at file found out) → Collects (on_parsed p file out) c o
+  collects_parsed found c o e hc ho = rw e (record { cells = hc; output = ho })
 
-    pub collects_parsed : every ≡ false → (collected_cells c ≡ run_cells (collected_at file found out)) × (o ≡ run_output (collected_at file found out))
-        → Collects (on_parsed (reader_by every) p file out) c o
-    unfolding collected_at
-    collects_parsed is ends = rw (e, is) (record { cells = ends.0; output = ends.1 })
-
-  pub collects_refused : (cause : Refusal) → p ≡ header.Refused cause → (c : Collected) → c ≡ nothing cause
-      → Collects (on_parsed (reader_by every) p file out) c out
+  pub collects_refused : (cause : Refusal) → p ≡ header.Refused cause → Collects (on_parsed p file out) (nothing cause) out
   unfolding run_cells
-  collects_refused cause e c is = let t = refused_is cause in record { cells = rw (is, e, t.2); output = rw (e, t.2) }
+  collects_refused cause e = let t = refused_is cause in record { cells = rw (e, t.2); output = rw (e, t.2) }
 
 -- The header reader's own answer leads on as the definition's.
-leads_on : (reader : Reader) (file out : List ℕ) (base o ow lw : ℕ) (p : HeaderAnswer) → Parses file base o ow lw p
-    → on_parsed reader p file out ≡ on_header reader (parsed_at file base o ow lw) (with_base base (header_at (drop base file) o ow lw)) file out
-leads_on reader file out base o ow lw (header.Parsed h) is = rw (← is.answer, ← is.fields h refl)
-leads_on reader file out base o ow lw (header.Refused r) is = let t = refused_is r in rw (← is.answer, t.2)
+leads_on : (file out : List ℕ) (base o ow lw : ℕ) (p : HeaderAnswer) → Parses file base o ow lw p
+    → on_parsed p file out ≡ on_header (parsed_at file base o ow lw) (with_base base (header_at (drop base file) o ow lw)) file out
+leads_on file out base o ow lw (header.Parsed h) is = rw (← is.answer, ← is.fields h refl)
+leads_on file out base o ow lw (header.Refused r) is = let t = refused_is r in rw (← is.answer, t.2)
 
 -- The three calls.
-module _ (every : Bool) (q : Request) (s : Lent) (x : PlanAnswer) (h i : List ℕ) (p : HeaderAnswer) (c : Collected) (o : List ℕ) where
+module _ (q : Request) (s : Lent) (x : PlanAnswer) (h i : List ℕ) (p : HeaderAnswer) (c : Collected) (o : List ℕ) where
   pub answered : q.geometry.record_size < 65536 → plan_answer_of x ≡ written q s.records s.header s.image
       → h ≡ header_exit q s.records s.header s.image → i ≡ image_exit q s.records s.header s.image
-      → Parses s.file s.base s.place q.geometry.offset_size q.length_size p → Collects (on_parsed (reader_by every) p s.file s.output) c o
-      → Answered (reader_by every) q s (record { written = x; header = p; collected = c }) h i o
+      → Parses s.file s.base s.place q.geometry.offset_size q.length_size p → Collects (on_parsed p s.file s.output) c o
+      → Answered q s (record { written = x; header = p; collected = c }) h i o
   unfolding read_back
   answered small wrote hl il parses collects =
-      let run : Collects (read_back (reader_by every) q s) c o = rw (leads_on (reader_by every) s.file s.output s.base s.place _ _ p parses) at collects in
+      let run : Collects (read_back q s) c o = rw (leads_on s.file s.output s.base s.place _ _ p parses) at collects in
       record {
         written = wrote;
         header_left = hl;
         image_left = il;
         parsed = parses;
         collected = collects;
-        complete = λ plan e holds long. complete q plan s (sym wrote ∙ ap plan_answer_of e) small h i hl il holds long _ o parses.answer (reader_by every) (returning every) run;
+        complete = λ plan e holds long. complete q plan s (sym wrote ∙ ap plan_answer_of e) small h i hl il holds long _ o parses.answer run;
       }
 
 -- The same in a file that has a block in front: what the write left stands in the part behind it.
-pub returns_behind : (reader : Reader) (q : Request) (p : BTreeV2Plan) (s : Lent) (r : RoundTrip) (h i o : List ℕ) → Answered reader q s r h i o → r.written ≡ Planned p
+pub returns_behind : (q : Request) (p : BTreeV2Plan) (s : Lent) (r : RoundTrip) (h i o : List ℕ) → Answered q s r h i o → r.written ≡ Planned p
     → (block file : List ℕ) → s.file ≡ block ++ file → s.base ≡ length block → Holds q p file s.place h i
     → q.record_count * q.geometry.record_size ≤ length s.output → Complete q p s r o
-returns_behind reader q p s r h i o answers e block file is base holds =
+returns_behind q p s r h i o answers e block file is base holds =
     let behind : part_of s ≡ file = rw (is, base) (drop_at block file (length block) refl) in answers.complete p e (rw behind holds)

@@ -1,13 +1,10 @@
--- The nodes of an accepted write, read back: collecting, and checked collecting too, puts out its records, all of them and in order.
-use mathlib.Core.Path.{◌≡◌, refl, sym, ◌∙◌}
-use mathlib.Core.Bool.{false}
-use borrow.Author.Tests.{eq-eqb}
+-- The nodes of an accepted write, read back: collecting puts out its records, all of them and in order.
+use mathlib.Core.Path.{◌≡◌, refl, sym}
 use mathlib.Core.List.{List, ◌++◌}
 use Prim.Native.Nat.{ℕ, ◌+◌, ◌*◌, ◌≤◌}
 use native.Mathlib.Nat.{zero-add, zero-mul}
 use native.Mathlib.Omega.{arith}
 use lib.ListN.{length, drop}
-use Rattle.read_checks.specs.Tests.{no_records}
 use Rattle.read_checks.proofs.Root.{some_records, root_passes}
 use Rattle.checksum.proofs.Promise.{lookup3_lt}
 use Rattle.numbers.specs.Numbers.{part}
@@ -16,20 +13,16 @@ use Rattle.refusal.specs.Answer.{accepted}
 use Rattle.plan.specs.Tree.{size}
 use Rattle.plan.proofs.Trees.{leaves_one_more, nodes_kinds, nodes_le_size}
 use Rattle.format.specs.Bytes.{address}
-use Rattle.btree_v2_walk.specs.Walk.{Run, fine, no_counts, Tests, node_run, tree_run, Reader}
+use Rattle.btree_v2_collect.specs.Walk.{fine, no_counts, Tests, node_run}
 use Rattle.format.specs.declared.Request.{Request}
 use Rattle.format.specs.Request.{depth_of, nodes_of, image_of, root_of, root_records_of}
 use Rattle.btree_v2_header.specs.Header.{header_figures, header_at, parsed}
-use Rattle.btree_v2_collect.specs.Collect.{collected}
-use Rattle.btree_v2_walk.specs.Tests.{collect_tests, checked_tests}
-use Rattle.btree_v2_collect.proofs.Collecting.{collected_root}
-use Rattle.btree_v2_collect_checked.specs.Checked.{checked}
-use Rattle.btree_v2_collect_checked.proofs.Calls.{checked_root}
+use Rattle.btree_v2_collect.specs.Collect.{collect_tests, collected}
 use Rattle.round_trip.specs.Return.{header_written, Returned}
 use Rattle.write_checks.proofs.Accepted.{Accepts, root_fits}
 use Rattle.format.proofs.Lengths.{range_all, length_image}
-use Rattle.btree_v2_walk.proofs.Sound.{tree_tally}
-use Rattle.round_trip.proofs.Image.{Passes, Imaged, collecting_passes, checking_passes, image_walks}
+use Rattle.btree_v2_collect.proofs.Sound.{tree_tally}
+use Rattle.round_trip.proofs.Image.{Passes, Imaged, collecting_passes, image_walks}
 use Rattle.write_checks.proofs.Fitting.{tree, positive, plan, sized, filled, fits, root_some, deep, room}
 
 module _ (q : Request) (recs : List ℕ) (a : Accepts q recs) (some : 1 ≤ q.record_count) where
@@ -56,42 +49,23 @@ module _ (q : Request) (recs : List ℕ) (a : Accepts q recs) (some : 1 ≤ q.re
         let all = range_all q recs (size (depth_of q) (tree q)) (rw (sized q recs a some) a.records) in
         simp (zero-add, zero-mul, all, stored_is, a.records) at w
 
-    -- What a reader is to put out, and the walk over the tree.
-    abbrev pub All : Run → Type 0
-    All run = run ≡ fine (tree_tally (depth_of q) (tree q)) (recs ++ drop (q.record_count * q.geometry.record_size) out)
-
-    tree_walks : (tests : Tests) → Passes q recs file tests → All (tree_run file (header_written q) tests out)
-    unfolding tree_run header_written
-    tree_walks tests passes =
-        rw (← root_passes q.geometry.record_size (depth_of q) (λ e. omega (arith, positive q (plan q recs a some))) (deep q recs a some))
-        (walks tests passes)
-
-    -- The tree has records.
-    read : no_records q.record_count (root_records_of q) ≡ false
-    read = let root = root_some q recs a some in some_records q.record_count (root_records_of q) (λ e. omega arith) (λ e. omega arith)
-
-    pub collects : All (collected file (header_written q) out)
-    unfolding header_written
+    pub collects : collected file (header_written q) out ≡ fine (tree_tally (depth_of q) (tree q)) (recs ++ drop (q.record_count * q.geometry.record_size) out)
+    unfolding collected header_written
     collects =
-        collected_root file (header_written q) out read
-        ∙ tree_walks (collect_tests file q.geometry) (collecting_passes q recs file lookup3_lt a.offset)
-
-    pub checks : All (checked file (header_written q) out)
-    unfolding header_written
-    checks =
-        checked_root file (header_written q) out read
-        ∙ rw (tree_walks (checked_tests file q.geometry q.tree_type) (checking_passes q recs file lookup3_lt a.offset), eq-eqb (size (depth_of q) (tree q)) q.record_count (sized q recs a some))
+        let root = root_some q recs a some in
+        rw (some_records q.record_count (root_records_of q) (λ e. omega arith) (λ e. omega arith), ← root_passes q.geometry.record_size (depth_of q) (λ e. omega (arith, positive q (plan q recs a some))) (deep q recs a some))
+        (walks (collect_tests file q.geometry) (collecting_passes q recs file lookup3_lt a.offset))
 
     -- With the header read back, all is returned.
-    pub returned : (read : Reader) → All (read file (header_written q) out) → (o : ℕ) → parsed file o q.geometry.offset_size q.length_size ≡ accepted (header_figures (header_written q))
-        → header_at file o q.geometry.offset_size q.length_size ≡ header_written q → Returned read q recs file o out
+    pub returned : (o : ℕ) → parsed file o q.geometry.offset_size q.length_size ≡ accepted (header_figures (header_written q))
+        → header_at file o q.geometry.offset_size q.length_size ≡ header_written q → Returned q recs file o out
     unfolding nodes_of
-    returned read puts o h fields =
+    returned o h fields =
         record {
           counts = tree_tally (depth_of q) (tree q);
           header = h;
           fields = fields;
-          output = puts;
+          output = collects;
           records = sized q recs a some;
           leaves_planned = refl;
           one_more = leaves_one_more (depth_of q) (tree q);

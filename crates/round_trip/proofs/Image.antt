@@ -7,24 +7,21 @@ use Prim.Native.Nat.{ℕ, zero, suc, ◌+◌, ◌-◌, ◌*◌, ◌^◌, ◌≤�
 use native.Mathlib.Nat.{one-mul, add-zero, add_assoc, mul-le-mul_right, mod-eq_of_lt}
 use native.Mathlib.Omega.{arith}
 use lib.ListN.{length, length-append}
-use borrow.Author.Tests.{le-leb, eq-eqb}
+use borrow.Author.Tests.{le-leb}
 use Rattle.checksum.specs.Lookup3.{lookup3}
-use Rattle.numbers.specs.Numbers.{le, unle, part, num, field_size}
+use Rattle.numbers.specs.Numbers.{le, part, field_size}
 use Rattle.numbers.specs.Places.{stored}
 use Rattle.numbers.proofs.Numbers.{le_length}
 use Rattle.refusal.specs.Answer.{accepted}
 use Rattle.plan.specs.Tree.{Kids, last, more, Tree, sum_kids, between, count, size, below, nodes, AllKids, Everywhere}
 use Rattle.plan.proofs.Trees.{everywhere_root}
 use Rattle.format.specs.Bytes.{leaf_signature, internal_signature, records_end, summed, padded, pointer_bytes, address, record_range, leaf_bytes, pointer, pointers, own_records, internal_bytes, kids_image, image}
-use Rattle.btree_v2_walk.specs.Walk.{pointer_to, address_in, records_in, Counts, fine, Tests, node_run}
-use Rattle.btree_v2_internal.specs.Internal.{pointers_end, pointer_place, child_address, child_records, child_total, internal_body, internal_sum, internal_test, checked_internal}
-use Rattle.btree_v2_internal.proofs.Nodes.{CheckedInternal, checked_internal_lem}
-use Rattle.btree_v2_leaf.specs.Leaf.{leaf_body, leaf_test, checked_leaf}
-use Rattle.btree_v2_leaf.proofs.Records.{CheckedLeaf, checked_leaf_lem}
-use Rattle.read_checks.specs.Tests.{version_type_test}
-use Rattle.btree_v2_walk.specs.Tests.{collect_tests, total_test, checked_tests}
+use Rattle.btree_v2_collect.specs.Walk.{pointer_to, address_in, records_in, Counts, fine, Tests, node_run}
+use Rattle.btree_v2_internal.specs.Internal.{pointer_place, child_address, child_records, internal_body, internal_test}
+use Rattle.btree_v2_leaf.specs.Leaf.{leaf_body, leaf_test}
+use Rattle.btree_v2_collect.specs.Collect.{collect_tests}
 use Rattle.numbers.proofs.Standing.{Stand, stand_left, stand_split, stand_end, stand_num}
-use Rattle.btree_v2_walk.proofs.Puts.{sum}
+use Rattle.btree_v2_collect.proofs.Puts.{sum}
 use Rattle.read_checks.proofs.Passing.{front_passes}
 use Rattle.round_trip.proofs.Summed.{checksum_passes}
 use Rattle.format.specs.declared.Request.{Request}
@@ -32,8 +29,8 @@ use Rattle.node_info.specs.declared.Geometry.{Geometry}
 use Rattle.node_info.specs.Capacity.{count_width, total_width, pointer_size_to}
 use Rattle.format.specs.Fit.{Fit}
 use Rattle.format.proofs.Lengths.{Room, length_range, range_add, length_pointer, length_own, length_internal, length_image, length_children}
-use Rattle.btree_v2_walk.specs.InFile.{children_bytes, tree_bytes, ChildSound, ChildrenSound, Sound}
-use Rattle.btree_v2_walk.proofs.Sound.{between_one, tree_tally, puts_node}
+use Rattle.btree_v2_collect.specs.InFile.{children_bytes, tree_bytes, ChildSound, ChildrenSound, Sound}
+use Rattle.btree_v2_collect.proofs.Sound.{between_one, tree_tally, puts_node}
 
 module _ (q : Request) (recs file : List ℕ) where
   abbrev g : Geometry
@@ -47,27 +44,22 @@ module _ (q : Request) (recs file : List ℕ) where
     pub child : (d : ℕ) (t : Tree d) (j p : ℕ) → Fit g d t → Stand file p (pointer q d t j)
         → tests.child d p (size d t) ≡ accepted []
 
-  -- A node in the file: its signature, its version and type, and what follows the first six bytes and ends before the checksum.
+  -- A node in the file: its signature, and what follows the first six bytes and ends before the checksum.
   record NodeStands (signature rest : List ℕ) (a : ℕ) : Type 0 where
     begins : part file a 4 ≡ signature
-    marks : version_type_test file q.tree_type a ≡ accepted []
     goes_on : Stand file (a + 6) rest
     ends : a + 10 + length rest ≤ length file
 
   node_stands : (signature rest : List ℕ) (a : ℕ) → length signature ≡ 4
       → Stand file a (summed (signature ++ (0 ∷ q.tree_type ∷ rest))) → NodeStands signature rest a
-  unfolding summed version_type_test num unle
+  unfolding summed
   node_stands signature rest a four h =
       let b = signature ++ (0 ∷ q.tree_type ∷ rest) in
       let e : length (b ++ le 4 (lookup3 b)) ≡ 10 + length rest = simp (length-append, le_length, four) (omega arith) in
       let s = stand_split file a signature (0 ∷ q.tree_type ∷ rest) (a + 4) (rw four) (stand_left file a b (le 4 (lookup3 b)) h) in
-      let v = stand_split file (a + 4) (0 ∷ []) (q.tree_type ∷ rest) (a + 5) (omega arith) s.1 in
-      let t = stand_split file (a + 5) (q.tree_type ∷ []) rest (a + 6) (omega arith) v.1 in
-      let x : unle (q.tree_type ∷ []) ≡ q.tree_type = omega arith in
       record {
         begins = rw four at s.0;
-        marks = rw (v.0, t.0, x, eq-eqb q.tree_type q.tree_type refl);
-        goes_on = t.1;
+        goes_on = (stand_split file (a + 4) (0 ∷ q.tree_type ∷ []) rest (a + 6) (omega arith) s.1).1;
         ends = omega (arith, stand_end file a (b ++ le 4 (lookup3 b)) h (omega arith));
       }
 
@@ -96,48 +88,6 @@ module _ (q : Request) (recs file : List ℕ) where
     pub collecting_passes : Passes (collect_tests file g)
     unfolding collect_tests
     collecting_passes = record { leaf = leaf_passes; internal = internal_passes; child = λ d t j p f h. refl }
-
-    -- And so is every check.
-    checked_leaf_passes : (n r a : ℕ) → Room q recs r n → Stand file a (summed (leaf_bytes q recs n r))
-        → checked_leaf file q.tree_type g.record_size a n ≡ accepted []
-    unfolding leaf_bytes
-    checked_leaf_passes n r a h st =
-        (checked_leaf_lem file q.tree_type g.record_size a n).1
-        (record { plain = leaf_passes n r a h st; marked = (node_stands leaf_signature (record_range q recs r n) a refl st).marks })
-
-    sum_passes : (d : ℕ) (ts : Kids (Tree d)) (j r a : ℕ) → Room q recs r (sum_kids (size d) ts + between ts)
-        → Stand file a (summed (internal_bytes q recs d ts j r)) → internal_sum file g.record_size (pointer_size_to g d) a (between ts) ≡ accepted []
-    unfolding internal_sum internal_bytes
-    sum_passes d ts j r a h st =
-        let s = node_stands internal_signature (own_records q recs d ts r ++ pointers q d ts j) a refl st in
-        let l = length_internal q recs d ts j r h in
-        let e : a + pointers_end g.record_size (pointer_size_to g d) (between ts) ≡ a + length (internal_bytes q recs d ts j r) = omega arith in
-        let there : pointers_end g.record_size (pointer_size_to g d) (between ts) + 4 ≤ length file - a = omega arith in
-        rw (le-leb _ _ there, e) (checksum_passes sum_fits file (internal_bytes q recs d ts j r) a st (accepted []))
-
-    checked_internal_passes : (d : ℕ) (ts : Kids (Tree d)) (j r a : ℕ) → Room q recs r (sum_kids (size d) ts + between ts)
-        → Stand file a (summed (internal_bytes q recs d ts j r))
-        → checked_internal file q.tree_type g.record_size g.offset_size (pointer_size_to g d) a (between ts) ≡ accepted []
-    unfolding internal_bytes
-    checked_internal_passes d ts j r a h st =
-        (checked_internal_lem file q.tree_type g.record_size g.offset_size (pointer_size_to g d) a (between ts)).1
-        (record {
-          plain = internal_passes d ts j r a h st;
-          marked = (node_stands internal_signature (own_records q recs d ts r ++ pointers q d ts j) a refl st).marks;
-          summed = sum_passes d ts j r a h st;
-        })
-
-    total_passes : (d : ℕ) (t : Tree d) (j p : ℕ) → Fit g d t → Stand file p (pointer q d t j) → total_test file g d p (size d t) ≡ accepted []
-    unfolding total_test pointer pointer_bytes child_total
-    total_passes zero t j p f h = refl
-    total_passes (suc d) t j p f h =
-        let a = stand_split file p (le g.offset_size (address q (j + below (suc d) t))) _ (p + g.offset_size) (rw le_length) h in
-        let c = stand_split file (p + g.offset_size) (le (count_width g) (count (suc d) t)) _ (p + g.offset_size + count_width g) (rw le_length) a.1 in
-        rw (stand_num file (p + g.offset_size + count_width g) (total_width g (suc d)) (size (suc d) t) c.1 (f.total (omega arith)), eq-eqb (size (suc d) t) (size (suc d) t) refl)
-
-    pub checking_passes : Passes (checked_tests file g q.tree_type)
-    unfolding checked_tests
-    checking_passes = record { leaf = checked_leaf_passes; internal = checked_internal_passes; child = total_passes }
 
   -- The pointer reads what was written.
   module _ (d : ℕ) (t : Tree d) (j p : ℕ) (h : Stand file p (pointer q d t j)) where

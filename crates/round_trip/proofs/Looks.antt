@@ -5,9 +5,9 @@ use Prim.Native.Nat.{ℕ, zero, suc, ◌+◌, ◌*◌, ◌<◌}
 use native.Mathlib.Nat.{zero-add}
 use native.Mathlib.Omega.{arith}
 use Rattle.refusal.specs.Answer.{accepted, refused}
-use Rattle.btree_v2_walk.specs.Walk.{Counts, Run, fine, stopped, and_then, with_leaf, put_bytes, put_record, records_put, leaf_run}
+use Rattle.btree_v2_collect.specs.Walk.{Counts, Run, fine, stopped, and_then, with_leaf, put_bytes, put_record, records_put, leaf_run}
 use Rattle.node_info.specs.declared.Geometry.{Geometry}
-use Rattle.btree_v2_walk.specs.Tests.{collect_tests}
+use Rattle.btree_v2_collect.specs.Collect.{collect_tests}
 use Rattle.btree_v2_leaf_view.specs.Look.{look_test, look_bytes, record_seen}
 use Rattle.round_trip.specs.Looks.{put_each}
 use Rattle.btree_v2_leaf_view.proofs.Looking.{look_leaf, look_passed, look_record}

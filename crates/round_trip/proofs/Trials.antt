@@ -1,13 +1,12 @@
 -- The definitions computed on small trees and files, beside the answers due. Bytes, headers read, records collected and the reading calls'
 -- refusals 1 to 6 with their figures are what the Rust gave for the same input; counts, what a refused collecting leaves, and a write's
--- refusals and 8, 15 and 16, and looks, are document 01's, 18, the refusal of a leaf without its checksum and all of every check are document
--- 02's.
+-- refusals and 8, 15 and 16, and looks, are document 01's, 18 and the refusal of a leaf without its checksum are document 02's.
 use mathlib.Core.Path.{◌≡◌, refl}
 use mathlib.Core.List.{List, [], ◌∷◌, ◌++◌, reverse}
 use Prim.Native.Nat.{ℕ, zero, suc, ◌+◌, ◌-◌, ◌*◌, ◌%◌}
 use lib.ListN.{length, take, set, replicate}
 use Rattle.checksum.proofs.Promise.{lookup3, computed}
-use Rattle.numbers.specs.Numbers.{pick, le, unle, num, least_from, width, field_size, part}
+use Rattle.numbers.specs.Numbers.{pick, le, unle, num, least_from, width, field_size}
 use Rattle.numbers.specs.Places.{stored, over}
 use Rattle.refusal.specs.Answer.{cells}
 use Rattle.node_info.specs.Capacity.{leaf_capacity, count_width, internal_capacity, subtree_capacity, total_width, node_capacity}
@@ -17,18 +16,15 @@ use Rattle.format.specs.Bytes.{summed, padded, pointer_bytes, address, record_ra
 use Rattle.format.specs.declared.Request.{Request}
 use Rattle.format.specs.Request.{nodes_of, image_of, root_of, root_records_of, header_from}
 use Rattle.write_checks.specs.Writing.{write_answer, written, header_exit, image_exit}
-use Rattle.btree_v2_walk.specs.Walk.{Run, put_record, records_put, leaf_run, child_run, own_record_run, children_run, node_run, tree_run, read_at}
-use Rattle.btree_v2_internal.specs.Internal.{pointer_place, child_address, child_records, internal_body, internal_test, child_total, internal_sum, checked_internal}
-use Rattle.read_checks.specs.Tests.{same, front_test, checksum_test, root_test, version_type_test}
+use Rattle.btree_v2_collect.specs.Walk.{Run, put_record, records_put, leaf_run, child_run, own_record_run, children_run, node_run}
+use Rattle.btree_v2_internal.specs.Internal.{pointer_place, child_address, child_records, internal_body, internal_test}
+use Rattle.read_checks.specs.Tests.{same, front_test, checksum_test, root_test}
 use Rattle.btree_v2_header.specs.declared.BTreeV2Header.{BTreeV2Header}
 use Rattle.read_checks.specs.Base.{on_part}
 use Rattle.btree_v2_header.specs.Header.{header_at, with_base, parsed, parsed_at}
-use Rattle.btree_v2_leaf.specs.Leaf.{leaf_body, leaf_test, checked_leaf}
+use Rattle.btree_v2_leaf.specs.Leaf.{leaf_body, leaf_test}
 use Rattle.btree_v2_leaf_view.specs.Look.{look_test, look_bytes, record_seen, record_answer, record_exit, record_answer_at, record_exit_at}
-use Rattle.btree_v2_collect.specs.Collect.{collected, collected_at}
-use Rattle.btree_v2_walk.specs.Tests.{collect_tests, total_test, checked_tests}
-use Rattle.btree_v2_collect_checked.specs.Checked.{checked, checked_at}
-use Rattle.btree_v2_walk.specs.Answers.{run_cells, run_output}
+use Rattle.btree_v2_collect.specs.Collect.{collect_tests, collected, collected_at, run_cells, run_output}
 
 -- w bytes as a hexadecimal number shows them, and nodes of w bytes one after another.
 dump : ℕ → ℕ → List ℕ
@@ -91,14 +87,6 @@ collecting file h n answer k = ending (collected file h (lent n)) n answer k
 
 collecting_at : List ℕ → ℕ → BTreeV2Header → ℕ → List ℕ → ℕ → Trial
 collecting_at file base h n answer k = ending (collected_at file (with_base base h) (lent n)) n answer k
-
--- The same with every check.
-checking : List ℕ → ℕ → BTreeV2Header → ℕ → List ℕ → ℕ → Trial
-checking file base h n answer k = ending (checked_at file (with_base base h) (lent n)) n answer k
-
--- A file in which byte p is x and the checksum of the `end` bytes of the node at a is made anew.
-changed : List ℕ → ℕ → ℕ → ℕ → ℕ → List ℕ
-changed file a end p x = let f = set file p x in stored f (a + end) (le 4 (lookup3 (part f a end)))
 
 -- A look at record 0 of a leaf at 0 with n records of 8 bytes, into an output of 8 bytes, of which the first k are then the record.
 looking : List ℕ → ℕ → ℕ → List ℕ → ℕ → Trial
@@ -323,39 +311,6 @@ behind =
     none : List ℕ
     none = 0 ∷ 0 ∷ 0 ∷ 0 ∷ []
 
--- Every check, of the 8 records: a total tested right after its child, and the last child's; version, type and checksums; where an internal node
--- ends early; N, and trees without records.
-checks : List Trial
-checks =
-    eight eight_file 8 67 (0 ∷ 0 ∷ 0 ∷ 8 ∷ 4 ∷ 3 ∷ 3 ∷ []) 64
-    ∷ eight (root 308 5) 8 32 (22 ∷ 0 ∷ 0 ∷ 4 ∷ 2 ∷ 2 ∷ 1 ∷ []) 32
-    ∷ eight (root 308 5) 8 31 (15 ∷ 31 ∷ 0 ∷ 3 ∷ 2 ∷ 2 ∷ 1 ∷ []) 24
-    ∷ eight (root 318 4) 8 64 (22 ∷ 0 ∷ 0 ∷ 8 ∷ 4 ∷ 3 ∷ 3 ∷ []) 64
-    ∷ eight (root 289 1) 8 64 (21 ∷ 0 ∷ 0 ∷ none) 0
-    ∷ eight (root 290 5) 8 64 (21 ∷ 0 ∷ 0 ∷ none) 0
-    ∷ eight (set (root 290 5) 288 0) 8 64 (2 ∷ 0 ∷ 0 ∷ none) 0
-    ∷ eight (changed eight_file 45 22 50 5) 8 64 (21 ∷ 0 ∷ 0 ∷ 0 ∷ 0 ∷ 2 ∷ 0 ∷ []) 0
-    ∷ eight (set eight_file 322 0) 8 64 (6 ∷ 10395668 ∷ 2610864148 ∷ none) 0
-    ∷ eight (take 322 eight_file) 8 64 (1 ∷ 38 ∷ 37 ∷ none) 0
-    ∷ checking (set eight_file 322 0) 0 (header 40 8 3 2 285 1 8) 64 (4 ∷ 3 ∷ 0 ∷ none) 0
-    ∷ eight eight_file 9 64 (22 ∷ 0 ∷ 0 ∷ 8 ∷ 4 ∷ 3 ∷ 3 ∷ []) 64
-    ∷ eight eight_file 9 63 (15 ∷ 63 ∷ 0 ∷ 7 ∷ 4 ∷ 3 ∷ 3 ∷ []) 56
-    ∷ checking [] 0 (header 40 0 8 40 285 0 0) 64 (0 ∷ 0 ∷ 0 ∷ none) 0
-    ∷ checking [] 0 (header 40 0 8 40 285 1 0) 64 (22 ∷ 0 ∷ 0 ∷ none) 0
-    ∷ checking [] 0 (header 40 0 8 40 285 0 8) 64 (22 ∷ 0 ∷ 0 ∷ none) 0
-    ∷ checking [] 1 (header 40 0 8 40 285 0 0) 64 (18 ∷ 0 ∷ 0 ∷ none) 0
-    ∷ checking (lent 100 ++ take 322 eight_file) 100 (header 40 8 8 2 285 1 8) 64 (1 ∷ 38 ∷ 37 ∷ none) 0
-    ∷ []
-  where
-    none : List ℕ
-    none = 0 ∷ 0 ∷ 0 ∷ 0 ∷ []
-
-    eight : List ℕ → ℕ → ℕ → List ℕ → ℕ → Trial
-    eight file records n answer k = checking file 0 (header 40 8 8 2 285 1 records) n answer k
-
-    root : ℕ → ℕ → List ℕ
-    root p x = changed eight_file 285 34 p x
-
 -- Looks at a leaf of three records, and at one of none: whole, without the last byte of the checksum, and without any of it.
 looks : List Trial
 looks =
@@ -373,14 +328,13 @@ disagreeing : ℕ → List Trial → List ℕ
 disagreeing i [] = []
 disagreeing i (t ∷ ts) = let rest = disagreeing (i + 1) ts in pick (same t.found t.due) rest (i ∷ rest)
 
-agree : disagreeing 0 (writes ++ (reads ++ (collects ++ (checks ++ (behind ++ looks))))) ≡ []
+agree : disagreeing 0 (writes ++ (reads ++ (collects ++ (behind ++ looks)))) ≡ []
 unfolding computed root_test le unle num least_from width field_size stored cells leaf_capacity count_width internal_capacity subtree_capacity
     total_width node_capacity sum_kids between count size below nodes leaves taken distributed children kids_of plan_tree any_of thin
     least_level plan_depth empty_level planned plan_figures plan_answer summed padded pointer_bytes address record_range leaf_bytes pointer pointers own_records internal_bytes
     kids_image image header_bytes over nodes_of image_of root_of root_records_of header_from write_answer written header_exit image_exit put_record
-    records_put pointer_place child_address child_records leaf_run child_run own_record_run children_run node_run tree_run read_at same front_test checksum_test header_at
-    parsed leaf_body leaf_test internal_body internal_test collect_tests collected
-    version_type_test checked_leaf internal_sum checked_internal child_total total_test checked_tests checked checked_at checking changed checks run_cells dump dumps ramp_from ramp lent writing summing refusing reading
+    records_put pointer_place child_address child_records leaf_run child_run own_record_run children_run node_run same front_test checksum_test header_at
+    parsed leaf_body leaf_test internal_body internal_test collect_tests collected run_cells dump dumps ramp_from ramp lent writing summing refusing reading
     collecting on_part parsed_at collected_at reading_at ending collecting_at behind look_test look_bytes record_seen record_answer record_exit
     record_answer_at record_exit_at looking looks request header three_header three_image four_header four_image eight_header eight_image eight_file leaves_last two_header two_image none_header
     none_image writes reads collects disagreeing

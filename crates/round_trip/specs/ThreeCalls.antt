@@ -1,6 +1,6 @@
--- A write, the header reader and collecting, or checked collecting, one after another: what they answer and leave, and the complete return of
--- records as a claim on what the three calls returned. From document 01, "Collecting", and document 02, "Two" and "Six".
-use Rattle.std.specs.Prelude.{◌≡◌, List, [], ◌∷◌, ℕ, ◌+◌, ◌-◌, ◌*◌, ◌≤◌, length, take, drop, Bool, true, false}
+-- A write, the header reader and the collector, one after another: what they answer and leave, and the complete return of records as a claim on
+-- what the three calls returned. From document 01, "Collecting", and document 02, "Two".
+use Rattle.std.specs.Prelude.{◌≡◌, List, [], ◌∷◌, ℕ, ◌+◌, ◌-◌, ◌*◌, ◌≤◌, length, take, drop}
 use Rattle.numbers.specs.Numbers.{part}
 use Rattle.refusal.specs.Answer.{accepted, refusal_of, verdict_of}
 use Rattle.plan.specs.declared.BTreeV2Plan.{BTreeV2Plan}
@@ -10,16 +10,15 @@ use Rattle.write_checks.specs.Writing as writer
 use Rattle.format.specs.declared.Request.{Request}
 use Rattle.format.specs.Bytes.{header_size, address}
 use Rattle.write_checks.specs.Writing.{header_exit, image_exit}
-use Rattle.btree_v2_walk.specs.Walk.{Run, fine, if_passed, no_counts, Reader, read_at}
+use Rattle.btree_v2_collect.specs.Walk.{Run, fine, if_passed, no_counts}
 use Rattle.btree_v2_collect.specs.Collect as collector
-use Rattle.btree_v2_collect_checked.specs.Checked as checker
 use Rattle.btree_v2_header.specs.declared.HeaderAnswer.{HeaderAnswer}
 use Rattle.btree_v2_header.specs.declared.HeaderAnswer.TheVariants as header
-use Rattle.btree_v2_walk.specs.Answers.{run_cells, run_output}
+use Rattle.btree_v2_collect.specs.Collect.{run_cells, run_output}
 use Rattle.btree_v2_header.specs.Answers.{header_answer_of, Parses}
-use Rattle.btree_v2_walk.specs.declared.Collected.{Collected}
-use Rattle.btree_v2_walk.specs.declared.Tally.{Tally}
-use Rattle.btree_v2_walk.specs.Answers.{collected_cells}
+use Rattle.btree_v2_collect.specs.declared.Collected.{Collected}
+use Rattle.btree_v2_collect.specs.declared.Tally.{Tally}
+use Rattle.btree_v2_collect.specs.Answers.{collected_cells}
 use Rattle.round_trip.specs.declared.RoundTrip.{RoundTrip}
 use Rattle.round_trip.specs.Nodes.{node_records}
 
@@ -42,15 +41,10 @@ lent records header image file base place output =
 abbrev pub part_of : Lent → List ℕ
 part_of s = drop s.base s.file
 
--- Reading the tree of the header that was read; a refused header ends the reading with its refusal.
-abbrev pub on_parsed : Reader → HeaderAnswer → List ℕ → List ℕ → Run
-on_parsed read (header.Parsed h) file output = read_at read file h output
-on_parsed read (header.Refused r) file output = if_passed (refusal_of r) no_counts output (fine no_counts output)
-
--- The reader of the tree that the third call is.
-abbrev pub reader_by : Bool → Reader
-reader_by true = checker.checked
-reader_by false = collector.collected
+-- Collecting the tree of the header that was read; a refused header ends the reading with its refusal.
+abbrev pub on_parsed : HeaderAnswer → List ℕ → List ℕ → Run
+on_parsed (header.Parsed h) file output = collector.collected_at file h output
+on_parsed (header.Refused r) file output = if_passed (refusal_of r) no_counts output (fine no_counts output)
 
 -- A collecting's answer and the output at exit are those of a run.
 pub record Collects (run : Run) (c : Collected) (output_last : List ℕ) : Type 0 where
@@ -94,11 +88,11 @@ pub record Complete (q : Request) (p : BTreeV2Plan) (s : Lent) (r : RoundTrip) (
 
 -- The three calls: the answers and the buffers at exit are those of the three definitions; and demand 3, of what the part from the base on
 -- holds.
-pub record Answered (read : Reader) (q : Request) (s : Lent) (r : RoundTrip) (header_last image_last output_last : List ℕ) : Type 0 where
+pub record Answered (q : Request) (s : Lent) (r : RoundTrip) (header_last image_last output_last : List ℕ) : Type 0 where
   pub written : plan_answer_of r.written ≡ writer.written q s.records s.header s.image
   pub header_left : header_last ≡ header_exit q s.records s.header s.image
   pub image_left : image_last ≡ image_exit q s.records s.header s.image
   pub parsed : Parses s.file s.base s.place q.geometry.offset_size q.length_size r.header
-  pub collected : Collects (on_parsed read r.header s.file s.output) r.collected output_last
+  pub collected : Collects (on_parsed r.header s.file s.output) r.collected output_last
   pub complete : (p : BTreeV2Plan) → r.written ≡ Planned p → Holds q p (part_of s) s.place header_last image_last
       → q.record_count * q.geometry.record_size ≤ length s.output → Complete q p s r output_last

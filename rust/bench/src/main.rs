@@ -3,7 +3,6 @@
 
 mod base;
 mod cases;
-mod checked;
 mod checksum;
 mod collect;
 mod find;
@@ -22,12 +21,11 @@ mod write;
 static HEAP: memory::Counted = memory::Counted;
 
 /// The parts; the header reader's takes its headers from the collector's files.
-const PARTS: [(&str, fn()); 9] = [
+const PARTS: [(&str, fn()); 8] = [
     ("checksum", checksum::run),
     ("plan", plan::run),
     ("write", write::run),
     ("read", || header::run(&collect::run())),
-    ("checked", checked::run),
     ("find", find::run),
     ("base", base::run),
     ("records", records::run),

@@ -12,9 +12,8 @@ const LEAST_ROUNDS: u128 = 5;
 /// Rounds end after this long, if there were enough of them.
 const BUDGET: Duration = Duration::from_secs(3);
 
-/// Contenders that are held beside the first one in the stack they take, too.
+/// A contender that is held beside the first one in the stack it takes, too.
 pub const PART: &str = "the part";
-pub const COLLECT: &str = "collect";
 
 extern "C" {
     fn bench_c_nanoseconds() -> u64;
@@ -135,8 +134,8 @@ impl<'a> Section<'a> {
         }
         columns.push(("stack".to_string(), grouped(all[0].stack as f64)));
         for (one, taken) in contenders.iter().zip(&all) {
-            if [PART, COLLECT].contains(&one.name) {
-                let name = format!("stack of {}", one.name);
+            if one.name == PART {
+                let name = format!("stack of {PART}");
                 columns.push((name, grouped(taken.stack as f64)));
             }
         }

@@ -19,7 +19,6 @@ pub fn run() {
     let sample = sample(&Case::new(USUAL, RECORDS));
     plan_and_parse(&mut section, &sample);
     write_and_collect(&mut section, &sample);
-    collect_checked(&mut section, &sample);
     find(&mut section, &sample);
 }
 
@@ -67,18 +66,6 @@ fn write_and_collect(section: &mut Section, sample: &Sample) {
     assert!(output == sample.records && other[0] == sample.records);
 }
 
-fn collect_checked(section: &mut Section, sample: &Sample) {
-    let (file, header) = (&sample.file[..], typed::header(&sample.tree));
-    let (figures, ow) = (header.figures_at(), USUAL.offset_size);
-    let [mut output, mut other] = [0; 2].map(|byte| vec![byte; sample.records.len()]);
-    let contenders = vec![
-        typed_by(|| black_box(header).collect_checked(black_box(file), &mut output)),
-        as_it_is(|| raw::collect_checked(black_box(file), black_box(&figures), ow, &mut other)),
-    ];
-    section.row(&["collect_checked".to_string()], 1, contenders);
-    assert!(output == sample.records && other == sample.records);
-}
-
 fn find(section: &mut Section, sample: &Sample) {
     let (file, header) = (&sample.file[..], typed::header(&sample.tree));
     let (field, figures, ow) = (Field::new(0, 8), header.figures_at(), USUAL.offset_size);
@@ -106,7 +93,6 @@ mod tests {
     use differential::inputs::Tree;
     use differential::model::Geometry;
     use differential::report::say;
-    use nuldrafon::Header;
     use std::hint::black_box;
 
     use crate::memory::taken;
@@ -140,11 +126,9 @@ mod tests {
         for total_records in [1, 20, 1 << 20, 1 << 40, u64::MAX] {
             let (file, tree) = shared_leaf(Geometry::new(4_096, 1, 8), total_records);
             let header = typed::header(&tree);
+            let taken = taken(&mut || drop(black_box(header.collect_to_vec(&file))));
             let part = file.len() - tree.base as usize;
-            for collect in [Header::collect_to_vec, Header::collect_checked_to_vec] {
-                let taken = taken(&mut || drop(black_box(collect(&header, &file))));
-                assert!(taken.heap > 0 && taken.heap <= part as isize);
-            }
+            assert!(taken.heap > 0 && taken.heap <= part as isize);
         }
         say("a vector of records takes no more heap than the file has bytes behind the block");
     }

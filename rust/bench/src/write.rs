@@ -51,7 +51,7 @@ fn time(section: &mut Section, case: &Case) {
 }
 
 /// How many bytes each node's checksum is of.
-pub fn summed(case: &Case) -> Vec<usize> {
+fn summed(case: &Case) -> Vec<usize> {
     let form = Form::new(case.geometry, case.plan.depth);
     let nodes = case.plan.nodes(case.record_count).into_iter();
     nodes
@@ -59,8 +59,7 @@ pub fn summed(case: &Case) -> Vec<usize> {
         .collect()
 }
 
-/// The checksums of an image's nodes, in one number.
-pub fn sums(image: &[u8], node_size: usize, summed: &[usize]) -> u32 {
+fn sums(image: &[u8], node_size: usize, summed: &[usize]) -> u32 {
     let nodes = image.chunks(node_size).zip(summed);
     nodes.fold(0, |all, (node, &length)| {
         all ^ nuldrafon::jenkins_lookup3(&node[..length])

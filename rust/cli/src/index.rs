@@ -1,5 +1,4 @@
-//! The index of the site in a file: written amid other bytes, read back, with every check too, and
-//! one bay found in it.
+//! The index of the site in a file: written amid other bytes, read back, and one bay found in it.
 
 use std::error::Error;
 
@@ -41,11 +40,6 @@ pub fn read(file: &[u8], base: u64) -> Result<(Header, Collected), Box<dyn Error
     let header = header(file, base)?;
     let collected = header.collect_to_vec(file)?;
     Ok((header, collected))
-}
-
-/// Reads all records of the file, with every check.
-pub fn read_checked(file: &[u8]) -> Result<Collected, Box<dyn Error>> {
-    Ok(header(file, 0)?.collect_checked_to_vec(file)?)
 }
 
 /// Finds the record of the bay with this name, by the hash of the name.

@@ -1,6 +1,6 @@
-//! Writes the index of an example site into a file, reads it back, with every check too, finds one
-//! bay in it and reads its record by its meaning, does so again behind a block of site notes, and
-//! shows what damaged copies of the file get.
+//! Writes the index of an example site into a file, reads it back, finds one bay in it and reads its
+//! record by its meaning, does so again behind a block of site notes, and shows what damaged copies
+//! of the file get.
 
 mod index;
 mod site;
@@ -81,15 +81,6 @@ fn read(file: &[u8], records: &[u8]) -> Result<(), Box<dyn Error>> {
          was added.",
         records.len(),
     );
-    if index::read_checked(file)? != collected {
-        return Err("read with every check, the records are others".into());
-    }
-    println!(
-        "Read with every check: the same {} records. Version, type and checksum of all {} nodes are\n\
-         right, and so is how many records the index says it has, in all and in each part.",
-        counts.records,
-        counts.leaves + counts.internal_nodes,
-    );
     Ok(())
 }
 
@@ -165,38 +156,12 @@ fn damage(file: &[u8], place: usize) -> Result<(), Box<dyn Error>> {
     refused(&format!("one bit of {HIT} is turned"), &flipped)?;
     refused(&format!("two bytes of {HIT} are exchanged"), &exchanged)?;
     refused("the copy stopped half way", cut)?;
-    refused("the file is empty", &[])?;
-    damage_above_leaves(file)
-}
-
-/// Damages a copy in the root, whose checksum only a read with every check compares.
-fn damage_above_leaves(file: &[u8]) -> Result<(), Box<dyn Error>> {
-    let (header, whole) = index::read(file, 0)?;
-    let mut flipped = file.to_vec();
-    flipped[header.root_address as usize + 6] ^= 1;
-    let (_, collected) = index::read(&flipped, 0)?;
-    if collected.records == whole.records {
-        return Err("the bit that was turned is in no record".into());
-    }
-    println!(
-        "\nDamaged above the leaves: one bit of a bay in the root is turned. Read as before, the copy\n\
-         has {} records, one of them wrong. Read with every check:",
-        collected.counts.records,
-    );
-    told(
-        "one bit is turned in the root",
-        index::read_checked(&flipped),
-    )
+    refused("the file is empty", &[])
 }
 
 /// Reads a damaged file and says why it is refused.
 fn refused(what: &str, file: &[u8]) -> Result<(), Box<dyn Error>> {
-    told(what, index::read(file, 0))
-}
-
-/// Says why a damaged file is refused, which it must be.
-fn told<T>(what: &str, read: Result<T, Box<dyn Error>>) -> Result<(), Box<dyn Error>> {
-    match read {
+    match index::read(file, 0) {
         Ok(_) => Err(format!("accepted, although {what}").into()),
         Err(refusal) => {
             println!("- {what}: refused, {refusal}");

@@ -170,8 +170,8 @@ fn write(
 /// Wipes the library's nodes, writes our header over the library's, and our nodes at the end, all in
 /// the HDF5 part.
 fn put(hdf5: &mut Vec<u8>, tree: &Tree, written: &Written) {
-    for node in &tree.nodes {
-        hdf5[node.at..node.at + tree.header.geometry.node_size as usize].fill(WIPED);
+    for at in &tree.nodes {
+        hdf5[*at..*at + tree.header.geometry.node_size as usize].fill(WIPED);
     }
     let at = tree.at;
     hdf5[at..at + written.tree.header.len()].copy_from_slice(&written.tree.header);

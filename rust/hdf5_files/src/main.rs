@@ -8,7 +8,6 @@ mod lexists;
 mod library;
 mod list;
 mod meaning;
-mod node_damage;
 mod superblock;
 mod tree;
 
@@ -22,15 +21,11 @@ use graft::{Written, DAMAGES};
 use library::{files_py, Folder};
 use list::{Entries, List};
 use meaning::Meanings;
-use node_damage::Refused;
 use tree::Tree;
 
 /// Trees of up to so many records are also damaged, in every way and at nodes of this size.
 const MOST_DAMAGED: u64 = 1_000;
 const DAMAGED_NODE_SIZE: u32 = 300;
-
-/// In the library's own trees of up to so many records single nodes are damaged.
-const MOST_NODES_DAMAGED: u64 = 10_000;
 
 /// Trees of up to so many records are also changed by the library, at nodes of these sizes. In
 /// nodes of 160 bytes and fewer the library fails to change even its own trees.
@@ -41,14 +36,13 @@ const GROWN_NODE_SIZES: [u32; 4] = [300, 512, 2_048, 65_536];
 const TIMED: &str = "links-100000-8-8";
 
 /// What was done: files of the library's that were read, files with our trees that it read, files
-/// that it changed and ours read again, damages that were noticed, and those in single nodes.
+/// that it changed and ours read again, and damages that were noticed.
 #[derive(Default)]
 struct Done {
     real: usize,
     grafts: usize,
     grown: usize,
     damages: usize,
-    nodes: Refused,
 }
 
 impl Done {
@@ -57,25 +51,18 @@ impl Done {
         self.grafts += other.grafts;
         self.grown += other.grown;
         self.damages += other.damages;
-        self.nodes.add(other.nodes);
     }
 
     fn print(&self, of: &str) -> Result<(), Fault> {
         println!(
             "{of}: {} of the library's read, {} with our trees read by the library, {} changed by \
-             it and read again, {} damages noticed; {} damages of single nodes, all refused with \
-             every check, {} without",
-            self.real,
-            self.grafts,
-            self.grown,
-            self.damages,
-            self.nodes.checked,
-            self.nodes.collect
+             it and read again, {} damages noticed",
+            self.real, self.grafts, self.grown, self.damages
         );
         // A run over no files would show nothing.
         same(
             "something done",
-            self.grafts * self.grown * self.damages * self.nodes.checked > 0,
+            self.grafts * self.grown * self.damages > 0,
             true,
         )
     }
@@ -133,7 +120,6 @@ fn run() -> Result<(), Fault> {
         }
     }
     done.print("files")?;
-    println!("each tree of these was read with every check too: the same records and counts");
     behind.print("of these behind a block, where with base 0 no tree comes out")?;
     let Finds {
         found,
@@ -202,7 +188,6 @@ impl Real {
             real: 1,
             grafts: written.len(),
             grown,
-            nodes: self.refuses_nodes(folder, made)?,
             damages: self.notices(folder, made)?,
         })
     }
@@ -326,23 +311,6 @@ impl Real {
             times.find
         );
         Ok(())
-    }
-
-    /// Damages single nodes of the library's trees; checked collecting must refuse each, and the
-    /// library notice it.
-    fn refuses_nodes(&self, folder: &Folder, made: &Folder) -> Result<Refused, Fault> {
-        let mut refused = Refused::default();
-        let count = self.trees[0].header.total_records;
-        if self.unread() || !(1..=MOST_NODES_DAMAGED).contains(&count) {
-            return Ok(refused);
-        }
-        let damaged = folder.inner("nodes")?;
-        for tree in &self.trees {
-            let save = |name: &str, bytes: &[u8]| self.save(&damaged, name, bytes);
-            refused.add(node_damage::each(&self.bytes, tree, save)?);
-        }
-        files_py("refuse", &[made, &damaged])?;
-        Ok(refused)
     }
 
     /// Damages what is read and what is written; each damage must be noticed. Returns how many.

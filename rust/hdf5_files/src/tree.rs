@@ -11,16 +11,8 @@ pub struct Tree {
     pub at: usize,
     pub header: Header,
     pub records: Vec<u8>,
-    pub nodes: Vec<Node>,
+    pub nodes: Vec<usize>,
     pub places: Vec<u64>,
-}
-
-/// A node: its place, that of its checksum, and that of the first child's total, where there is one.
-pub struct Node {
-    pub level: u16,
-    pub at: usize,
-    pub end: usize,
-    pub total: Option<usize>,
 }
 
 impl Tree {
@@ -92,17 +84,13 @@ pub fn trees(file: &[u8], sizes: Sizes) -> Result<Vec<Tree>, Fault> {
         .collect()
 }
 
-/// Collects a tree, with every check too, and walks its nodes beside that.
+/// Collects a tree, and walks its nodes beside that.
 fn tree(file: &[u8], at: usize, header: Header) -> Result<Tree, Fault> {
     let record_size = usize::from(header.geometry.record_size);
     let mut records = vec![0; header.total_records as usize * record_size];
     let counts = header.collect(file, &mut records);
     let counts = counts.map_err(|error| format!("collecting, {error}"))?;
     same("records put out", counts.records, header.total_records)?;
-    let mut checked = vec![0; records.len()];
-    let with_every_check = header.collect_checked(file, &mut checked);
-    same("counts with every check", with_every_check, Ok(counts))?;
-    same("records with every check", checked == records, true)?;
     let mut walk = Walk::new(file, header)?;
     // The library's tree without records has no node.
     if header.total_records > 0 {
@@ -120,15 +108,15 @@ fn tree(file: &[u8], at: usize, header: Header) -> Result<Tree, Fault> {
     })
 }
 
-/// A walk by itself that compares what collecting with every check does, the zeros behind the nodes,
-/// and what a look at each leaf shows.
+/// A walk that compares what the collector does not: checksums and totals of internal nodes, the
+/// versions and types of nodes, and the zeros behind them; and what a look at each leaf shows.
 struct Walk<'a> {
     file: &'a [u8],
     /// The part from the base on.
     hdf5: &'a [u8],
     header: Header,
     info: NodeInfo,
-    nodes: Vec<Node>,
+    nodes: Vec<usize>,
     places: Vec<u64>,
 }
 
@@ -171,8 +159,7 @@ impl<'a> Walk<'a> {
         let totals = self.total_width(level);
         let width = offset_size + counts + totals;
         let children = if level == 0 { 0 } else { count as usize + 1 };
-        let end = pointers + children * width;
-        self.framed(bytes, level, end)?;
+        self.framed(bytes, level, pointers + children * width)?;
         let mut total = count;
         let mut records = (0..count).map(|i| at + 6 + i * record_size);
         if level == 0 {
@@ -188,13 +175,7 @@ impl<'a> Walk<'a> {
             total += below;
             self.places.extend(records.next());
         }
-        let at = at as usize;
-        self.nodes.push(Node {
-            level: level as u16,
-            at,
-            end: at + end,
-            total: (totals > 0).then_some(at + pointers + offset_size + counts),
-        });
+        self.nodes.push(at as usize);
         Ok(total)
     }
 

@@ -16,7 +16,6 @@
 //! | write a tree | [`WriteRequest::write_to_vec`], or [`WriteRequest::write`] into lent buffers |
 //! | read a header | [`Header::parse`], or [`Header::parse_at`] behind a block |
 //! | read all records | [`Header::collect_to_vec`], or [`Header::collect`] into a lent buffer |
-//! | read them with every check | [`Header::collect_checked_to_vec`], or [`Header::collect_checked`] |
 //! | find one record by a number in it | [`Header::find`] |
 //! | read a record by its fields | [`RecordValues::read`] |
 //! | write one | [`RecordValues::write_to_vec`], or [`RecordValues::write`] into a lent buffer |
@@ -65,7 +64,6 @@
 #![deny(missing_docs)]
 #![deny(unsafe_code)]
 
-mod collect;
 mod field;
 mod find;
 mod geometry;
@@ -77,11 +75,10 @@ mod record;
 mod refusal;
 mod write_request;
 
-pub use collect::{CollectError, Collected, Counts};
 pub use field::Field;
 pub use find::{FindError, Found};
 pub use geometry::{Geometry, NodeInfo, Plan, LEVELS};
-pub use header::Header;
+pub use header::{CollectError, Collected, Counts, Header};
 pub use leaf_view::LeafView;
 pub use raw::jenkins_lookup3;
 pub use record::RecordValues;

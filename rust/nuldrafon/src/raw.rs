@@ -107,14 +107,6 @@ calls! {
         file: &[u8], header: &[u64; 8], offset_size: u8, output: &mut [u8],
     ) -> [u64; 7];
 
-    /// [`collect_at`] with every check: versions and types of nodes, checksums
-    /// of internal nodes, totals of subtrees and of the header. Refusals: 18; 22, where only one of
-    /// the root's records and the records in all is 0; 8, 16; those of the nodes and records (1, 2,
-    /// 4, 6, 15, 21, 22).
-    collect_checked = btree_v2_collect_checked(
-        file: &[u8], header: &[u64; 8], offset_size: u8, output: &mut [u8],
-    ) -> [u64; 7];
-
     /// Copies record `index` of the leaf at `address` of the file, which has `count` records, to
     /// the front of the output; the record is empty where `index` is not below `count`. Answer: 0,
     /// length of the record, 0. Refusals in this order: 8, 1, 2, 1, 6, 15; nothing is written then.

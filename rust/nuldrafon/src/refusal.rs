@@ -93,8 +93,8 @@ macro_rules! causes {
 
 // Named as in hdf5-pure where that has the cause.
 causes! {
-    /// The file ends early. Both numbers count from the base, and for the records, pointers and
-    /// checksum of an internal node from the node on.
+    /// The file ends early. Both numbers count from the base, and for the records and pointers of
+    /// an internal node from the node on.
     UnexpectedEof {
         /// The end that is needed, at most 2^64 - 1.
         expected: u64,
@@ -185,15 +185,6 @@ causes! {
     /// any but 0 is where the type lacks the field.
     RecordTypeMismatch = 20:
         "the record's length is not that of its type, or a value is too large for its field";
-
-    /// A node's version is not 0, or its type not the header's.
-    NodeVersionOrType = 21:
-        "a node's version is not 0, or its type not the header's";
-
-    /// A subtree has not as many records as its total says, or the tree as many as its header; or
-    /// only one of the header's two numbers of records, in all and in the root, is 0.
-    TotalDiffers = 22:
-        "the records of a subtree or of the tree are not as many as is said of it";
 }
 
 impl Error for Refusal {}

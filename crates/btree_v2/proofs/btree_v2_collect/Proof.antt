@@ -1,6 +1,6 @@
 -- `btree_v2_collect`: the numbers as figures, and base 0 behind them.
 use mathlib.Core.Path.{refl, ap, ◌∙◌}
-use Rattle.btree_v2_walk.specs.Answers.{run_cells, run_output}
+use Rattle.btree_v2_collect.specs.Collect.{run_cells, run_output}
 use Rattle.header_figures.specs.Figures.{sizes, given}
 use Rattle.btree_v2.proofs.Figures.{InRange, collect_whole}
 use borrow.Author.Rules.{rules}

@@ -1,7 +1,6 @@
--- `btree_v2_collect_at` puts what the call answers of the header that the figures tell.
+-- `btree_v2_collect_at` puts what the collector answers of the header that the figures tell.
 use mathlib.Core.Path.{◌∙◌}
-use Rattle.btree_v2_collect.specs.Collect.{collected_at}
-use Rattle.btree_v2.proofs.Figures.{read_told}
+use Rattle.btree_v2.proofs.Figures.{collect_told}
 use borrow.Author.Rules.{rules}
 use Rattle.btree_v2.proofs.btree_v2_collect_at.Statement.{statement}
 use Rattle.btree_v2.proofs.btree_v2_collect_at.Tie as tie
@@ -13,5 +12,5 @@ btree_v2_collect_at_spec =
     (λ c κs. search rules) (λ c κs. search rules) (λ c κs. search rules) (λ c. search rules)
     (λ c.
     let collect = c.before.before.before.before in
-    let ended = read_told collected_at _ _ collect.collect-btree-v2-records.result collect.before.before.header_of.ensures collect.collect-btree-v2-records.ensures in
+    let ended = collect_told _ _ _ _ collect.collect-btree-v2-records.result _ collect.before.before.header_of.ensures collect.collect-btree-v2-records.ensures in
     (c.put-collected.ensures ∙ ended.0, ended.1)))

@@ -1,5 +1,5 @@
 -- `keep`: by whether the node has a bounding record, and whether that has the key sought.
-use Rattle.btree_v2_walk.proofs.Nodes.{begin_fits, record_offset, record_place_lem}
+use Rattle.btree_v2_collect.proofs.Nodes.{begin_fits, record_offset, record_place_lem}
 use Rattle.btree_v2_find.proofs.Searching.{keep_none, keep_here, keep_other}
 use borrow.Author.Rules.{rules}
 use Rattle.btree_v2_find.proofs.keep.Statement.{statement}

@@ -133,7 +133,7 @@ pub const WITHIN_LEAF_CHECKSUM: &str = "within a leaf's checksum";
 
 /// Whether the model is refused so.
 pub fn within_leaf_checksum<T>(answer: model::Answer<T>) -> bool {
-    answer.is_err_and(|refusal| refusal.by == Some(model::Test::LeafChecksumBytes))
+    answer.is_err_and(|refusal| refusal.within_leaf_checksum)
 }
 
 /// Something that tells a refusal's number and values.

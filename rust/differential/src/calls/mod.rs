@@ -3,7 +3,6 @@
 mod based;
 mod case;
 pub mod collect;
-pub mod collect_checked;
 pub mod find;
 pub mod leaf_record;
 pub mod node_info;
@@ -17,8 +16,6 @@ pub mod write;
 use crate::compare::{records, Family};
 use case::WITHIN_LEAF_CHECKSUM;
 pub use case::{By, Case, Fault, ShownBy};
-use collect::Plain;
-use collect_checked::Checked;
 
 /// A call, and what its suite is made of.
 pub struct Call {
@@ -140,69 +137,24 @@ pub static CALLS: &[Call] = &[
         refusals: &[1, 2, 4, 6, 8, 15, 16, 18],
         outcomes: &[WITHIN_LEAF_CHECKSUM],
         suite: &[
-            part("block-trees", collect::behind_blocks::<Plain>)
+            part("block-trees", collect::behind_blocks)
                 .soaks()
                 .notices(),
-            part("tree-causes", collect::with_several_causes::<Plain>).notices(),
-            part("tree-bases", collect::at_every_base::<Plain>),
-            part("written-trees", collect::as_written::<Plain>).notices(),
-            part("trees", collect::of_any_geometry::<Plain>).soaks(),
-            part("cut-trees", collect::cut::<Plain>).soaks(),
-            part("leaf-ends", collect::ending_in_a_leaf::<Plain>)
+            part("tree-causes", collect::with_several_causes).notices(),
+            part("tree-bases", collect::at_every_base),
+            part("written-trees", collect::as_written).notices(),
+            part("trees", collect::of_any_geometry).soaks(),
+            part("cut-trees", collect::cut).soaks(),
+            part("leaf-ends", collect::ending_in_a_leaf)
                 .soaks()
                 .notices(),
             part("damaged-trees", collect::damaged).soaks().notices(),
-            part("made-up", collect::with_made_up_headers::<Plain>).soaks(),
-            part("graphs", collect::of_random_graphs::<Plain>)
-                .soaks()
-                .notices(),
+            part("made-up", collect::with_made_up_headers).soaks(),
+            part("graphs", collect::of_random_graphs).soaks().notices(),
         ],
-        large: &[part("large-trees", collect::of_many_records::<Plain>).soaks()],
+        large: &[part("large-trees", collect::of_many_records).soaks()],
         large_refusals: &[1, 6, 15],
         faults: case::faults::<collect::Collecting>,
-    },
-    Call {
-        name: "collect_checked",
-        refusals: &[1, 2, 4, 6, 8, 15, 16, 18, 21, 22],
-        outcomes: &[
-            WITHIN_LEAF_CHECKSUM,
-            collect_checked::WITHIN_INTERNAL_CHECKSUM,
-            collect_checked::INTERNAL_CHECKSUM,
-            collect_checked::SUBTREE_TOTAL,
-            collect_checked::HEADER_TOTAL,
-            collect_checked::EMPTY_TREE,
-        ],
-        suite: &[
-            part("checked-blocks", collect::behind_blocks::<Checked>)
-                .soaks()
-                .notices(),
-            part("checked-causes", collect::with_several_causes::<Checked>).notices(),
-            part("checked-bases", collect::at_every_base::<Checked>),
-            part("checked-outputs", collect::as_written::<Checked>).notices(),
-            part("checked-trees", collect::of_any_geometry::<Checked>).soaks(),
-            part("checked-cuts", collect::cut::<Checked>)
-                .soaks()
-                .notices(),
-            part("checked-ends", collect::ending_in_a_leaf::<Checked>)
-                .soaks()
-                .notices(),
-            part("checked-totals", collect_checked::with_other_totals).notices(),
-            part("checked-types", collect_checked::with_other_types).notices(),
-            part("checked-faults", collect_checked::with_several_faults)
-                .soaks()
-                .notices(),
-            part("checked-damages", collect_checked::damaged)
-                .soaks()
-                .notices(),
-            part("checked-headers", collect::with_made_up_headers::<Checked>).soaks(),
-            part("checked-bytes", collect_checked::of_any_bytes).soaks(),
-            part("checked-graphs", collect::of_random_graphs::<Checked>)
-                .soaks()
-                .notices(),
-        ],
-        large: &[part("large-checked", collect::of_many_records::<Checked>).soaks()],
-        large_refusals: &[1, 6, 15],
-        faults: case::faults::<Checked>,
     },
     Call {
         name: "leaf_record",

@@ -10,35 +10,31 @@ use crate::random::Random;
 /// Node sizes for counts of one to four bytes; no node is as long.
 const NODE_SIZES: [u32; 5] = [60, 3_000, 300_000, 100_000_000, u32::MAX];
 
-/// A node, its place, and what pointers to it say that its subtree has.
+/// A node and its place.
 #[derive(Clone, Copy)]
 struct Node {
     level: u16,
     records: usize,
     address: usize,
-    total: u64,
 }
 
 /// What makes the records of a node, so many bytes.
 pub type Records = fn(&mut Random, usize) -> Vec<u8>;
 
 /// A file, and a tree in it: one to three nodes of each level, each pointer to one of those a level
-/// below, and now and then a pointer to another place or a wrong count or total. In some files all
-/// totals are any numbers. Some are cut, and some have a block in front.
+/// below, and now and then a pointer to another place or a wrong count. Some files are cut, and
+/// some have a block in front.
 pub fn grafted(records: Records, random: &mut Random) -> (Vec<u8>, Tree) {
     let depth = match random.up_to(2) {
         0 => random.up_to(32) as u16,
         _ => random.up_to(4) as u16,
     };
     let form = any_form(depth, random);
-    let totals = any_totals(random);
-    let (mut nodes, length) = placed(&form, depth, random);
+    let (nodes, length) = placed(&form, depth, random);
     let mut file = random.bytes(length);
-    for i in 0..nodes.len() {
-        let pointers = pointers(nodes[i], &nodes, length, random);
-        nodes[i].total = totals(nodes[i], &pointers, random);
-        let node = nodes[i];
-        let mut bytes = filled(&form, node, records, &pointers, random);
+    for node in &nodes {
+        let pointers = pointers(*node, &nodes, length, random);
+        let mut bytes = filled(&form, *node, records, &pointers, random);
         if random.up_to(300) == 0 {
             let at = random.up_to(bytes.len() as u64 - 1) as usize;
             bytes[at] ^= 1 << random.up_to(7);
@@ -75,22 +71,18 @@ pub fn ending_in_a_leaf(records: Records, random: &mut Random) -> (Vec<u8>, Tree
                 level,
                 records: (least + random.up_to(2)) as usize,
                 address: length + random.up_to(2) as usize,
-                total: 0,
             };
             length = node.address + form.length(level, node.records);
             nodes.push(node);
         }
     }
-    let totals = any_totals(random);
     let mut file = random.bytes(length);
-    for i in (0..nodes.len()).rev() {
-        let mut pointers = pointers(nodes[i], &nodes, length, random);
-        if let (Some(last), Some(child)) = (pointers.last_mut(), below(nodes[i], &nodes).last()) {
+    for node in &nodes {
+        let mut pointers = pointers(*node, &nodes, length, random);
+        if let (Some(last), Some(child)) = (pointers.last_mut(), below(*node, &nodes).last()) {
             *last = exact(*child, random);
         }
-        nodes[i].total = totals(nodes[i], &pointers, random);
-        let node = nodes[i];
-        let bytes = filled(&form, node, records, &pointers, random);
+        let bytes = filled(&form, *node, records, &pointers, random);
         file[node.address..node.address + bytes.len()].copy_from_slice(&bytes);
     }
     let tree = tree_under(&form, nodes[0], random);
@@ -105,33 +97,15 @@ fn any_form(depth: u16, random: &mut Random) -> Form {
     Form::new(geometry, depth)
 }
 
-/// What pointers say that the subtree of a node has, whose own pointers say this: mostly the sum, in
-/// some files any number.
-fn any_totals(random: &mut Random) -> fn(Node, &[Pointer], &mut Random) -> u64 {
-    match random.up_to(3) {
-        0 => |_, _, random| random.number(),
-        _ => |node, pointers, _| {
-            let own = node.records as u64;
-            let below = pointers.iter().map(|pointer| pointer.total);
-            below.fold(own, u64::saturating_add)
-        },
-    }
-}
-
-/// The tree under a root, mostly with the number of records that pointers to it would say.
+/// The tree under a root, with any number of records in all.
 fn tree_under(form: &Form, root: Node, random: &mut Random) -> Tree {
-    let total = match random.up_to(7) {
-        0 => random.number(),
-        1 => root.total.saturating_add(1),
-        _ => root.total,
-    };
     Tree {
         tree_type: 5,
         geometry: form.geometry,
         depth: root.level,
         root_address: root.address as u64,
         root_records: root.records as u16,
-        total_records: total.max(1),
+        total_records: random.number() | 1,
         base: 0,
     }
 }
@@ -151,13 +125,8 @@ fn placed(form: &Form, depth: u16, random: &mut Random) -> (Vec<Node>, usize) {
                 level,
                 records: records as usize,
                 address: 0,
-                total: 0,
             });
         }
-    }
-    // Most roots have records: without any they would not be read.
-    if let (Some(root), 1..) = (nodes.last_mut(), random.up_to(5)) {
-        root.records = root.records.max(1);
     }
     let mut order: Vec<usize> = (0..nodes.len()).collect();
     for last in (1..order.len()).rev() {
@@ -209,7 +178,7 @@ fn exact(child: Node, random: &mut Random) -> Pointer {
     Pointer {
         address: child.address as u64,
         records: random.number() << 16 | child.records as u64,
-        total: child.total,
+        total: random.number(),
     }
 }
 
@@ -220,7 +189,6 @@ fn pointer(child: Node, length: usize, random: &mut Random) -> Pointer {
         0 => pointer.address = u64::MAX - random.any_magnitude(u64::MAX),
         1 => pointer.address = random.up_to(length as u64),
         2 => pointer.records = random.any_magnitude(u64::MAX),
-        3 => pointer.total ^= 1 << random.up_to(9),
         _ => {}
     }
     pointer

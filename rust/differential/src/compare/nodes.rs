@@ -1,6 +1,4 @@
-//! Nodes made by hand, as the readers take them, and changed ones.
-
-use std::ops::Range;
+//! Nodes made by hand, as the readers take them.
 
 use crate::model::{lookup3, Geometry, Table};
 
@@ -35,18 +33,6 @@ impl Form {
         10 + records * usize::from(self.geometry.record_size) + pointers
     }
 
-    /// The places in a node of its pointers' totals; none where its children are leaves.
-    pub fn totals(&self, level: u16, records: usize) -> Vec<Range<usize>> {
-        if level < 2 {
-            return Vec::new();
-        }
-        let pointer = self.table.pointer(self.geometry, level.into()) as usize;
-        let width = self.table.t[usize::from(level) - 1] as usize;
-        let pointers = 6 + records * usize::from(self.geometry.record_size);
-        let ends = (0..=records).map(|child| pointers + (child + 1) * pointer);
-        ends.map(|end| end - width..end).collect()
-    }
-
     pub fn leaf(&self, records: &[u8]) -> Vec<u8> {
         summed(&[b"BTLF\0\x05", records].concat())
     }
@@ -72,10 +58,4 @@ impl Form {
 /// The bytes and their checksum.
 fn summed(bytes: &[u8]) -> Vec<u8> {
     [bytes, &lookup3(bytes).to_le_bytes()].concat()
-}
-
-/// Makes the last four bytes of a node the checksum of those before them.
-pub fn sum_anew(node: &mut [u8]) {
-    let (bytes, checksum) = node.split_at_mut(node.len() - 4);
-    checksum.copy_from_slice(&lookup3(bytes).to_le_bytes());
 }

@@ -3,12 +3,11 @@
 use std::ops::Range;
 
 use super::bytes::repeated;
-use super::nodes::Form;
 use super::{block, grid, rust, Comparison, Held};
 use crate::calls::write::Draft;
 use crate::calls::{By, Case};
 use crate::inputs::{Leaf, Tree, Writing};
-use crate::model::{header_size, plan, Geometry, Node, Plan, LEVEL_LIMIT};
+use crate::model::{header_size, plan, Geometry, Plan, LEVEL_LIMIT};
 use crate::random::Random;
 
 /// A file with one tree, and what was written. The places of header and image count from the
@@ -20,15 +19,6 @@ pub struct Sample {
     pub length_size: u8,
     pub tree: Tree,
     pub records: Vec<u8>,
-}
-
-/// A node of a sample's image.
-pub struct Placed {
-    pub level: u16,
-    pub records: u16,
-    pub address: u64,
-    /// Its places in the file, to the end of its checksum.
-    pub bytes: Range<usize>,
 }
 
 /// The sizes of a sample.
@@ -129,8 +119,8 @@ impl Sample {
         [header..header_end, image..image_end]
     }
 
-    /// The nodes of the image, from the first on.
-    pub fn nodes(&self) -> Vec<Placed> {
+    /// The leaves of the image, from its first node on.
+    pub fn leaves(&self) -> Vec<Leaf> {
         let Tree {
             geometry,
             total_records,
@@ -138,32 +128,15 @@ impl Sample {
             ..
         } = self.tree;
         let plan = plan(total_records, geometry).expect("the tree was written");
-        let form = Form::new(geometry, plan.depth);
         let places = (self.image_at as u64..).step_by(geometry.node_size as usize);
         let nodes = plan.nodes(total_records).into_iter().zip(places);
         nodes
-            .map(|(Node { level, records }, address)| {
-                let begin = (base + address) as usize;
-                let length = form.length(level, records as usize);
-                Placed {
-                    level,
-                    records: records as u16,
-                    address,
-                    bytes: begin..begin + length,
-                }
-            })
-            .collect()
-    }
-
-    /// The leaves of the image, from its first node on.
-    pub fn leaves(&self) -> Vec<Leaf> {
-        let leaves = self.nodes().into_iter().filter(|node| node.level == 0);
-        leaves
-            .map(|leaf| Leaf {
-                base: self.tree.base,
-                address: leaf.address,
-                count: leaf.records,
-                record_size: self.tree.geometry.record_size,
+            .filter(|(node, _)| node.level == 0)
+            .map(|(node, address)| Leaf {
+                base,
+                address,
+                count: node.records as u16,
+                record_size: geometry.record_size,
             })
             .collect()
     }

@@ -25,25 +25,21 @@ pub struct Collected {
 }
 
 pub fn collect(file: &[u8], tree: &Tree, output: &mut [u8]) -> Collected {
-    walk(Nodes::of(file, tree), tree, output)
+    let mut counts = Counts::default();
+    let answer = begin(file, tree, output, &mut counts);
+    Collected { answer, counts }
 }
 
-/// Goes over the nodes of a tree, where there are any, and puts their records out.
-pub fn walk(nodes: Answer<Option<Nodes>>, tree: &Tree, output: &mut [u8]) -> Collected {
-    let mut counts = Counts::default();
-    let answer = nodes.and_then(|nodes| match nodes {
-        None => Ok(()),
-        Some(nodes) => {
-            let counts = &mut counts;
-            let mut walk = Walk {
-                nodes,
-                output,
-                counts,
-            };
-            walk.node(tree.depth, tree.root_address, tree.root_records)
-        }
-    });
-    Collected { answer, counts }
+fn begin(file: &[u8], tree: &Tree, output: &mut [u8], counts: &mut Counts) -> Answer<()> {
+    let Some(nodes) = Nodes::of(file, tree)? else {
+        return Ok(());
+    };
+    let mut walk = Walk {
+        nodes,
+        output,
+        counts,
+    };
+    walk.node(tree.depth, tree.root_address, tree.root_records)
 }
 
 fn more(count: &mut u64) {
@@ -65,11 +61,8 @@ impl Walk<'_> {
             return records.try_for_each(|record| self.put(record));
         }
         more(&mut self.counts.internals);
-        for child in node.children {
-            let before = self.counts.records;
-            self.node(level - 1, child.address, child.records)?;
-            self.nodes
-                .check_total(&child, self.counts.records - before)?;
+        for (address, count) in node.children {
+            self.node(level - 1, address, count)?;
             if let Some(record) = records.next() {
                 self.put(record)?;
                 more(&mut self.counts.internal_records);

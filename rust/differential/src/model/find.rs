@@ -44,8 +44,7 @@ fn descend(
             }
         }
         if level > 0 {
-            let child = node.children[bound.unwrap_or(count.into())];
-            (address, count) = (child.address, child.records);
+            (address, count) = node.children[bound.unwrap_or(count.into())];
         }
     }
     Ok(answer)
@@ -97,7 +96,6 @@ fn add<'a>(
     let mut children = node.children.into_iter();
     loop {
         if let Some(child) = children.next() {
-            let child = (child.address, child.records);
             add(nodes, level - 1, child, most, records)?;
         }
         let Some(record) = own.next() else {

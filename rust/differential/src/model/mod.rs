@@ -4,7 +4,6 @@
 
 mod base;
 mod collect;
-mod collect_checked;
 mod fields;
 mod find;
 mod header;
@@ -19,16 +18,15 @@ mod table;
 mod write;
 
 pub use collect::{collect, Collected, Counts};
-pub use collect_checked::collect_checked;
 pub use fields::{filled_to, joined, Fields};
 pub use find::{find, fits, key_of, list, Found, Listed};
 pub use header::parse;
 pub use leaf::leaf_record;
 pub use lookup3::lookup3;
-pub use nodes::{Child, Nodes, TestedNode};
+pub use nodes::{Nodes, TestedNode};
 pub use numbers::{largest, width};
 pub use plan::{plan, Node, Plan, MOST_RECORDS};
 pub use record::{record_read, record_write};
-pub use refusal::{Answer, Refusal, Test};
+pub use refusal::{Answer, Refusal};
 pub use table::{table, Geometry, Table, LEVEL_LIMIT};
 pub use write::{fields_of_nodes, header_size, write};

@@ -1,11 +1,10 @@
 //! The nodes of a tree: the tests before the root, the tests of each node, and what a node has.
 
 use super::base;
-use super::fields::VERSION;
 use super::leaf;
 use super::numbers::get;
 use super::plan::check_offset_size;
-use super::refusal::{self, require, Answer, Test};
+use super::refusal::{self, require, Answer};
 use super::table::{table, Geometry, Table};
 use crate::inputs::Tree;
 
@@ -14,8 +13,6 @@ pub struct Nodes<'a> {
     file: &'a [u8],
     geometry: Geometry,
     table: Table,
-    /// The tree's type where every test of the format is made; none where collecting's alone are.
-    checked: Option<u8>,
 }
 
 /// A node that has passed its tests.
@@ -24,18 +21,8 @@ pub struct TestedNode<'a> {
     pub place: u64,
     /// Its records, end to end.
     pub records: &'a [u8],
-    /// Its children; none in a leaf.
-    pub children: Vec<Child>,
-}
-
-/// What a pointer says of a child.
-#[derive(Debug, Clone, Copy)]
-pub struct Child {
-    pub address: u64,
-    /// The records in the child itself.
-    pub records: u16,
-    /// The records of its subtree; a leaf's pointer does not have them.
-    pub total: Option<u64>,
+    /// The address and the record count of each child; none in a leaf.
+    pub children: Vec<(u64, u16)>,
 }
 
 impl Tree {
@@ -58,20 +45,7 @@ impl<'a> Nodes<'a> {
             file,
             geometry,
             table: table(geometry, tree.depth)?,
-            checked: None,
         }))
-    }
-
-    /// The same, with every test of the format: a tree is empty only by both of its numbers.
-    pub fn checked(file: &'a [u8], tree: &Tree) -> Answer<Option<Nodes<'a>>> {
-        let nodes = Nodes::of(file, tree)?;
-        let no_records = tree.total_records == 0 && tree.root_records == 0;
-        require(
-            nodes.is_some() || no_records,
-            refusal::total_differs(Test::EmptyTree),
-        )?;
-        let checked = Some(tree.tree_type);
-        Ok(nodes.map(|nodes| Nodes { checked, ..nodes }))
     }
 
     /// The bytes of a record.
@@ -87,30 +61,9 @@ impl<'a> Nodes<'a> {
         }
     }
 
-    /// Holds a child's total, where it has one, to the records that the child put out.
-    pub fn check_total(&self, child: &Child, put_out: u64) -> Answer<()> {
-        let differs = child.total.is_some_and(|total| total != put_out);
-        require(
-            self.checked.is_none() || !differs,
-            refusal::total_differs(Test::SubtreeTotal),
-        )
-    }
-
-    /// The part of the file from a node on, once its front has passed.
-    fn begins(&self, address: u64, signature: &[u8]) -> Answer<&'a [u8]> {
-        let part = leaf::begins(self.file, address, signature)?;
-        let right = |tree_type| part[4..6] == [VERSION, tree_type];
-        require(
-            self.checked.is_none_or(right),
-            refusal::node_version_or_type(),
-        )?;
-        Ok(part)
-    }
-
     fn leaf(&self, address: u64, count: u16) -> Answer<TestedNode<'a>> {
-        let part = self.begins(address, b"BTLF")?;
         Ok(TestedNode {
-            records: leaf::records(part, address, count, self.geometry.record_size)?,
+            records: leaf::records(self.file, address, count, self.geometry.record_size)?,
             place: address + 6,
             children: Vec::new(),
         })
@@ -118,38 +71,27 @@ impl<'a> Nodes<'a> {
 
     /// An internal node. The figures of its later shortages are of the part from the node on.
     fn internal(&self, level: usize, address: u64, count: usize) -> Answer<TestedNode<'a>> {
-        let part = self.begins(address, b"BTIN")?;
-        let early = |end: usize| refusal::file_ends_early(end as u128, part.len());
+        let part = leaf::begins(self.file, address, b"BTIN")?;
+        let offset_size = self.geometry.offset_size;
         let pointer = self.table.pointer(self.geometry, level) as usize;
         let pointers = 6 + count * self.record_size();
         let end = pointers + (count + 1) * pointer;
         for end in [pointers, end] {
-            require(end <= part.len(), early(end))?;
-        }
-        check_offset_size(self.geometry.offset_size)?;
-        if self.checked.is_some() {
             require(
-                end + 4 <= part.len(),
-                early(end + 4).by(Test::InternalChecksumBytes),
+                end <= part.len(),
+                refusal::file_ends_early(end as u128, part.len()),
             )?;
-            leaf::check_sum(part, end).map_err(|refusal| refusal.by(Test::InternalChecksum))?;
         }
-        let children = part[pointers..end].chunks(pointer);
+        check_offset_size(offset_size)?;
+        let child = |pointer: &[u8]| {
+            let (address, rest) = pointer.split_at(offset_size.into());
+            let records = get(&rest[..self.table.w as usize]) % 65_536;
+            (get(address), records as u16)
+        };
         Ok(TestedNode {
             place: address + 6,
             records: &part[6..pointers],
-            children: children.map(|pointer| self.child(level, pointer)).collect(),
+            children: part[pointers..end].chunks(pointer).map(child).collect(),
         })
-    }
-
-    /// The child of a pointer in a node of a level.
-    fn child(&self, level: usize, pointer: &[u8]) -> Child {
-        let (address, rest) = pointer.split_at(self.geometry.offset_size.into());
-        let (records, total) = rest.split_at(self.table.w as usize);
-        Child {
-            address: get(address),
-            records: (get(records) % 65_536) as u16,
-            total: (level > 1).then(|| get(total)),
-        }
     }
 }

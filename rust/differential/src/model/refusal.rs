@@ -7,35 +7,8 @@ use super::numbers::held;
 pub struct Refusal {
     pub number: u64,
     pub values: [u64; 2],
-    /// The test that failed, if it is one of these.
-    pub by: Option<Test>,
-}
-
-/// Tests that share their number with others.
-#[derive(Debug, Clone, Copy, PartialEq, Eq)]
-pub enum Test {
-    /// The checksum of a leaf whose records are there ends in the file (1).
-    LeafChecksumBytes,
-    /// The checksum of an internal node whose pointers are there ends in the file (1).
-    InternalChecksumBytes,
-    /// The checksum of an internal node agrees (6).
-    InternalChecksum,
-    /// The total of a pointer is that of the records below it (22).
-    SubtreeTotal,
-    /// The header's number of records is that of the records in the tree (22).
-    HeaderTotal,
-    /// Where one number of the header says that there are no records, the other does too (22).
-    EmptyTree,
-}
-
-impl Refusal {
-    /// The same, told to be by one of those tests.
-    pub fn by(self, test: Test) -> Refusal {
-        Refusal {
-            by: Some(test),
-            ..self
-        }
-    }
+    /// The file ends within the checksum of a leaf whose records are there.
+    pub within_leaf_checksum: bool,
 }
 
 /// Accepted figures or a refusal.
@@ -62,12 +35,19 @@ fn valued(number: u64, values: [u64; 2]) -> Refusal {
     Refusal {
         number,
         values,
-        by: None,
+        within_leaf_checksum: false,
     }
 }
 
 pub fn file_ends_early(end_needed: u128, length: usize) -> Refusal {
     valued(1, [held(end_needed), length as u64])
+}
+
+pub fn file_ends_within_leaf_checksum(end_needed: u128, length: usize) -> Refusal {
+    Refusal {
+        within_leaf_checksum: true,
+        ..file_ends_early(end_needed, length)
+    }
 }
 
 pub fn wrong_signature() -> Refusal {
@@ -144,12 +124,4 @@ pub fn unknown_record_type() -> Refusal {
 
 pub fn record_type_mismatch() -> Refusal {
     plain(20)
-}
-
-pub fn node_version_or_type() -> Refusal {
-    plain(21)
-}
-
-pub fn total_differs(test: Test) -> Refusal {
-    plain(22).by(test)
 }

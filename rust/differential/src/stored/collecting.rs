@@ -2,7 +2,7 @@
 
 use super::images::BEFORE;
 use super::{array, behind, tree_of, List, BLOCK};
-use crate::calls::collect::{Collecting, Kind, Plain};
+use crate::calls::collect::Collecting;
 use crate::calls::By;
 use crate::compare::{Comparison, Held};
 use crate::model::Geometry;
@@ -23,11 +23,11 @@ const LAYOUT: &str = "\
 ";
 
 /// A collecting.
-pub struct Case {
-    pub file: Vec<u8>,
-    pub header: [u64; 8],
-    pub offset_size: u8,
-    pub output_length: usize,
+struct Case {
+    file: Vec<u8>,
+    header: [u64; 8],
+    offset_size: u8,
+    output_length: usize,
 }
 
 impl Case {
@@ -40,20 +40,13 @@ impl Case {
             room: 1_000,
         }
     }
-
-    /// The same behind the block.
-    pub fn behind_the_block(mut self) -> Case {
-        self.file = behind(&self.file);
-        self.header[7] = BLOCK.len() as u64;
-        self
-    }
 }
 
-/// A tree of numbered bytes behind so many others, without the zeros after its root.
-pub fn written(geometry: Geometry, front: usize, record_count: u64) -> Case {
+/// A tree of numbered bytes behind 3 others, without the zeros after its root.
+fn written(geometry: Geometry, record_count: u64) -> Case {
     let length = record_count as usize * usize::from(geometry.record_size);
     let records: Vec<u8> = (0..length).map(|i| i as u8).collect();
-    let (file, tree) = tree_of(geometry, front, &records);
+    let (file, tree) = tree_of(geometry, 3, &records);
     Case {
         file,
         header: tree.figures(),
@@ -63,43 +56,32 @@ pub fn written(geometry: Geometry, front: usize, record_count: u64) -> Case {
 }
 
 fn cases() -> Vec<Case> {
-    let mut cases = shallow_trees();
-    cases.push(written(Geometry::new(280, 1, 4), 3, 280));
-    cases.extend(faulty(&FAULTS, small));
-    cases.extend(faulty(&BEHIND_THE_BLOCK, |record_count| {
-        small(record_count).behind_the_block()
-    }));
-    cases
-}
-
-/// Whole trees of depth 0 and 1, one without records.
-pub fn shallow_trees() -> Vec<Case> {
-    let trees = [
+    let mut cases: Vec<Case> = [
         (Geometry::new(40, 8, 8), 0),
         (Geometry::new(40, 8, 8), 3),
         (Geometry::new(40, 8, 8), 4),
         (Geometry::new(30, 2, 2), 40),
-    ];
-    trees
-        .map(|(geometry, count)| written(geometry, 3, count))
-        .into()
-}
-
-/// The small tree of so many records.
-pub fn small(record_count: u64) -> Case {
-    written(Geometry::new(21, 3, 2), 3, record_count)
-}
-
-/// Trees of so many records, each with what goes wrong.
-pub fn faulty(faults: &[(u64, Fault)], tree: fn(u64) -> Case) -> impl Iterator<Item = Case> + '_ {
-    faults.iter().map(move |(record_count, fault)| {
-        let mut case = tree(*record_count);
+        (Geometry::new(280, 1, 4), 280),
+    ]
+    .map(|(geometry, count)| written(geometry, count))
+    .into();
+    let small = |record_count| written(Geometry::new(21, 3, 2), record_count);
+    for (record_count, fault) in FAULTS {
+        let mut case = small(record_count);
         fault(&mut case);
-        case
-    })
+        cases.push(case);
+    }
+    for (record_count, fault) in BEHIND_THE_BLOCK {
+        let mut case = small(record_count);
+        case.file = behind(&case.file);
+        case.header[7] = BLOCK.len() as u64;
+        fault(&mut case);
+        cases.push(case);
+    }
+    cases
 }
 
-pub type Fault = fn(&mut Case);
+type Fault = fn(&mut Case);
 
 /// What can go wrong with a tree of 3 records (a leaf at 3, whose records end at 18), of 4 (leaves
 /// at 3 and 24, root at 45) or of 8 (leaves at 3, 24, 66 and 87, internal nodes at 45 and 108, root
@@ -167,20 +149,11 @@ const BEHIND_THE_BLOCK: [(u64, Fault); 22] = [
 ];
 
 fn text(by: By) -> String {
-    text_of::<Plain>(by, LAYOUT, "COLLECT", cases())
-}
-
-fn family(to: &mut Comparison, _: &mut Random) -> Held {
-    hold_cases::<Plain>(to, &cases())
-}
-
-/// The text of a list of collectings of one kind: the rows and the bytes of its cases.
-pub fn text_of<K: Kind>(by: By, layout: &str, name: &str, cases: Vec<Case>) -> String {
     let mut rows: Vec<Vec<u64>> = Vec::new();
     let mut bytes: Vec<Vec<u8>> = Vec::new();
-    for case in cases {
+    for case in cases() {
         let mut lent = [vec![BEFORE; case.output_length]];
-        let answer = by.answer(&K::case(case.collecting()), &mut lent);
+        let answer = by.answer(&case.collecting(), &mut lent);
         let [output] = lent;
         let mut row = vec![case.file.len() as u64];
         row.extend(case.header);
@@ -189,13 +162,12 @@ pub fn text_of<K: Kind>(by: By, layout: &str, name: &str, cases: Vec<Case>) -> S
         rows.push(row);
         bytes.extend([case.file, output]);
     }
-    let rows = array(&format!("{name}_ROWS"), "u64", &rows);
-    let bytes = array(&format!("{name}_BYTES"), "u8", &bytes);
-    format!("{layout}{rows}{bytes}")
+    let rows = array("COLLECT_ROWS", "u64", &rows);
+    format!("{LAYOUT}{rows}{}", array("COLLECT_BYTES", "u8", &bytes))
 }
 
-pub fn hold_cases<K: Kind>(to: &mut Comparison, cases: &[Case]) -> Held {
-    cases
+fn family(to: &mut Comparison, _: &mut Random) -> Held {
+    cases()
         .iter()
-        .try_for_each(|case| to.hold("stored", &K::case(case.collecting())))
+        .try_for_each(|case| to.hold("stored", &case.collecting()))
 }

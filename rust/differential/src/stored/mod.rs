@@ -1,6 +1,5 @@
 //! The stored lists of answers, for runs that do not have the Rust: texts of array constants.
 
-pub mod checked_collecting;
 pub mod checksum;
 pub mod collecting;
 pub mod finding;
@@ -25,12 +24,11 @@ pub struct List {
     pub family: Family,
 }
 
-pub const LISTS: [List; 9] = [
+pub const LISTS: [List; 8] = [
     plans::LIST,
     images::LIST,
     headers::LIST,
     collecting::LIST,
-    checked_collecting::LIST,
     looks::LIST,
     finding::LIST,
     records::READ,

@@ -3,7 +3,6 @@
 use std::panic::{catch_unwind, AssertUnwindSafe};
 
 use differential::calls::typed;
-use differential::compare::nodes::sum_anew;
 use differential::compare::rust;
 use differential::inputs::{Leaf, Tree, Writing};
 use differential::model::Geometry;
@@ -130,54 +129,6 @@ fn collecting() {
         assert_eq!(refused(&tree), Refusal::DepthAboveLimit(33));
         assert_eq!(rust::collect(&leaf, &tree), Err([2, 0, 0]));
     });
-}
-
-/// What checked collecting tests beside collecting, in a tree of 8 records whose root is at 240, its
-/// first total at 263, its checksum from 274 to 278.
-#[test]
-fn checked_collecting() {
-    with_rust(
-        "the Rust collects on where 21, 22 and an internal checksum refuse",
-        || {
-            let records: Vec<u8> = (0..64).collect();
-            let given = zeros(&records, 8, Geometry::new(40, 8, 8));
-            let written = typed::request(&given).write_to_vec();
-            let image = written.expect("a tree is written").image;
-            let tree = Tree {
-                tree_type: 5,
-                geometry: given.geometry,
-                depth: 2,
-                root_address: 240,
-                root_records: 1,
-                total_records: 8,
-                base: 0,
-            };
-            let refused = |file: &[u8], tree: &Tree| {
-                let checked = typed::header(tree).collect_checked(file, &mut [0; 64]);
-                checked.expect_err("the tree is refused").refusal.number()
-            };
-            for (place, number) in [(244, 21), (245, 21), (263, 22), (274, 6), (277, 6)] {
-                let mut file = image.clone();
-                file[place] ^= 1;
-                if place < 274 {
-                    sum_anew(&mut file[240..278]);
-                }
-                assert_eq!(refused(&file, &tree), number, "byte {place}");
-                assert_eq!(rust::collect(&file, &tree), Ok(records.clone()));
-            }
-            assert_eq!(refused(&image[..277], &tree), 1);
-            assert_eq!(rust::collect(&image[..277], &tree), Ok(records.clone()));
-
-            for (total_records, collected) in [(9, &records[..]), (0, &[])] {
-                let tree = Tree {
-                    total_records,
-                    ..tree
-                };
-                assert_eq!(refused(&image, &tree), 22, "N is {total_records}");
-                assert_eq!(rust::collect(&image, &tree), Ok(collected.to_vec()));
-            }
-        },
-    );
 }
 
 /// A leaf whose file ends within its checksum: the Rust reads it unchecked.

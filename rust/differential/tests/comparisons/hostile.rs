@@ -3,8 +3,7 @@
 use std::thread;
 use std::time::{Duration, Instant};
 
-use differential::calls::collect::{Collecting, Kind, Plain};
-use differential::calls::collect_checked::Checked;
+use differential::calls::collect::Collecting;
 use differential::calls::find::{Finding, Search};
 use differential::calls::{typed, Case};
 use differential::compare::nodes::{Form, Pointer};
@@ -30,7 +29,7 @@ struct Tower {
 }
 
 /// Node after node from the leaf up to level 32: each has as many records as is said for its level,
-/// and all its pointers lead to the node below it, whose total they have as far as it fits.
+/// and all its pointers lead to the node below it.
 fn tower(records: impl Fn(u16) -> usize) -> Tower {
     let form = Form::new(WIDE, LEVEL_LIMIT);
     let mut file = Vec::new();
@@ -47,10 +46,6 @@ fn tower(records: impl Fn(u16) -> usize) -> Tower {
         };
         below.address = file.len() as u64;
         below.records = own.len() as u64;
-        let children = own.len() as u64 + u64::from(level > 0);
-        below.total = below
-            .records
-            .wrapping_add(children.wrapping_mul(below.total));
         file.extend(node);
     }
     Tower {
@@ -85,27 +80,17 @@ fn soon<A: Send>(name: &str, run: impl FnOnce() -> A + Send) -> (A, Duration) {
     (answer, taken)
 }
 
-/// Collects on a small stack, with and without every check. The model gives the same with them; what
-/// comes without them is the answer.
-fn collect(name: &str, file: &[u8], tree: &Tree, output_length: usize) -> [u64; 7] {
-    let input = Collecting::of(file, tree, output_length, 0);
-    let checked = collect_as::<Checked>(&format!("{name}, checked"), input);
-    let due = Checked(input).model(&mut [vec![0; output_length]]);
-    assert_eq!(checked, due, "{name}");
-    collect_as::<Plain>(name, input)
-}
-
 /// Collects on a small stack, says what was read, and holds the nodes to 33 for each record and 33.
-fn collect_as<K: Kind>(name: &str, input: Collecting) -> [u64; 7] {
-    let output_length = input.output_length;
+fn collect(name: &str, file: &[u8], tree: &Tree, output_length: usize) -> [u64; 7] {
+    let case = Collecting::of(file, tree, output_length, 0);
     let mut lent = [vec![0; output_length]];
-    let (answer, taken) = soon(name, || K::case(input).rattle(&mut lent));
+    let (answer, taken) = soon(name, || case.rattle(&mut lent));
     let [number, _, _, records, leaves, internals, _] = answer;
     let nodes = leaves + internals;
     say(&format!(
         "hostile file, {name}: refusal {number}, {} bytes of file, {output_length} of output, \
          {nodes} nodes read, {:.3} for each byte of output, {} ms",
-        input.file.len(),
+        file.len(),
         nodes as f64 / output_length as f64,
         taken.as_millis(),
     ));

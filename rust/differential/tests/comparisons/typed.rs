@@ -127,10 +127,6 @@ fn reads(file: &[u8], sample: Option<Header>, random: &mut Random) {
     let mut output = vec![0; random.any_magnitude(5_000) as usize];
     let _ = header.collect(file, &mut output).map_err(told_with_counts);
     let _ = header.collect_to_vec(file).map_err(told_with_counts);
-    let checked = header.collect_checked(file, &mut output);
-    let _ = checked.map_err(told_with_counts);
-    let checked = header.collect_checked_to_vec(file);
-    let _ = checked.map_err(told_with_counts);
     let key = Field::new(any(random), any(random));
     let found = header.find(file, key, any(random));
     let _ = found.map_err(told_with_counts);

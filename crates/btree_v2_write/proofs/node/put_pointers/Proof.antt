@@ -1,5 +1,5 @@
 -- The loop of `put_pointers`: what fills the rest, from the progress reached on, fills the whole.
-use Rattle.btree_v2_write.proofs.Internal.{PointersLeft, pointers_start, pointer_fits, next_fits, turn_fits, pointers_turn, pointers_end_lem}
+use Rattle.btree_v2_write.proofs.Internal.{PointersLeft, pointers_start, pointer_fits, next_fits, turn_fits, pointers_turn, pointers_end}
 use Prim.Native.Nat.{◌+◌, ◌-◌}
 use borrow.Author.Rules.{rules}
 use Rattle.btree_v2_write.proofs.node.put_pointers.Statement.{statement}
@@ -25,4 +25,4 @@ put_pointers_spec =
     (λ c. search rules)
     (λ c. search pointers_turn)
     (λ c. search rules)
-    (λ c. pointers_end_lem _ _ _ c.before.before.before.before.before.args.internal _ _ _ _ c.before.loop.invariant c.loop-test.false))
+    (λ c. pointers_end _ _ _ c.before.before.before.before.before.args.internal _ _ _ _ c.before.loop.invariant c.loop-test.false))

@@ -1,6 +1,6 @@
-//! Collecting: the families of cases, which checked collecting has too.
+//! Collecting: the families of cases.
 
-use super::{Collecting, Kind};
+use super::Collecting;
 use crate::calls::based::Based;
 use crate::compare::block;
 use crate::compare::causes::{with_causes, with_high_bits};
@@ -21,14 +21,14 @@ const GRAPHS: usize = 120_000;
 const EVERY_DAMAGE: usize = 300;
 
 /// Whole files into outputs of every length around every number of records.
-pub fn as_written<K: Kind>(to: &mut Comparison, random: &mut Random) -> Held {
+pub fn as_written(to: &mut Comparison, random: &mut Random) -> Held {
     for_each(to, random, |to, sample, _| {
-        to.hold_whole::<K>("as written", sample)?;
+        to.hold_whole("as written", sample)?;
         let size = usize::from(sample.tree.geometry.record_size);
         for records in 0..=sample.tree.total_records as usize {
             for extra in [0, 1, size - 1, size + 1] {
                 let length = records * size + extra;
-                to.hold("outputs", &K::case(of(sample, length)))?;
+                to.hold("outputs", &of(sample, length))?;
             }
         }
         Ok(())
@@ -36,34 +36,34 @@ pub fn as_written<K: Kind>(to: &mut Comparison, random: &mut Random) -> Held {
 }
 
 /// Trees at any geometry: whole, into an output of any length, and damaged.
-pub fn of_any_geometry<K: Kind>(to: &mut Comparison, random: &mut Random) -> Held {
+pub fn of_any_geometry(to: &mut Comparison, random: &mut Random) -> Held {
     for _ in 0..TREES {
         let Some(mut sample) = sample::any(to.by, random) else {
             continue;
         };
-        to.hold_whole::<K>("any geometry", &sample)?;
+        to.hold_whole("any geometry", &sample)?;
         let whole = sample.records.len();
         let output = random.up_to(whole as u64) as usize;
-        to.hold("any geometry", &K::case(of(&sample, output)))?;
+        to.hold("any geometry", &of(&sample, output))?;
         let [_, image] = sample.parts();
         let place = image.start + random.up_to(image.len() as u64 - 1) as usize;
         sample.file[place] ^= 1 << random.up_to(7);
-        to.hold("any geometry, damaged", &K::case(of(&sample, whole)))?;
+        to.hold("any geometry, damaged", &of(&sample, whole))?;
     }
     Ok(())
 }
 
 /// Every end of the file, without and with a block in front.
-pub fn cut<K: Kind>(to: &mut Comparison, random: &mut Random) -> Held {
+pub fn cut(to: &mut Comparison, random: &mut Random) -> Held {
     for_each(to, random, |to, sample, random| {
-        to.hold_every_end::<K>("cut", of(sample, sample.records.len()))?;
+        to.hold_every_end("cut", &of(sample, sample.records.len()))?;
         sample.put_behind_a_block(random);
-        to.hold_every_end::<K>("cut behind a block", of(sample, sample.records.len()))
+        to.hold_every_end("cut behind a block", &of(sample, sample.records.len()))
     })
 }
 
 /// Every end of files whose leaves stand behind all other nodes, without and with a block in front.
-pub fn ending_in_a_leaf<K: Kind>(to: &mut Comparison, random: &mut Random) -> Held {
+pub fn ending_in_a_leaf(to: &mut Comparison, random: &mut Random) -> Held {
     for _ in 0..ENDS {
         let (mut file, mut tree) = graft::ending_in_a_leaf(Random::bytes, random);
         let output = match random.up_to(3) {
@@ -71,10 +71,10 @@ pub fn ending_in_a_leaf<K: Kind>(to: &mut Comparison, random: &mut Random) -> He
             _ => 4_000,
         };
         let case = Collecting::of(&file, &tree, output, ROOM);
-        to.hold_every_end::<K>("ending in a leaf", case)?;
+        to.hold_every_end("ending in a leaf", &case)?;
         block::put_in_front(&mut file, &mut tree, random);
         let case = Collecting::of(&file, &tree, output, ROOM);
-        to.hold_every_end::<K>("ending in a leaf behind a block", case)?;
+        to.hold_every_end("ending in a leaf behind a block", &case)?;
     }
     Ok(())
 }
@@ -104,7 +104,7 @@ pub fn damaged(to: &mut Comparison, random: &mut Random) -> Held {
 }
 
 /// Headers with some numbers made up, over the small files, and figures above their fields' ranges.
-pub fn with_made_up_headers<K: Kind>(to: &mut Comparison, random: &mut Random) -> Held {
+pub fn with_made_up_headers(to: &mut Comparison, random: &mut Random) -> Held {
     for_each(to, random, |to, sample, random| {
         for _ in 0..HEADERS {
             let tree = &sample.made_up_header(random);
@@ -114,32 +114,32 @@ pub fn with_made_up_headers<K: Kind>(to: &mut Comparison, random: &mut Random) -
             if random.up_to(1) == 0 {
                 case.header = with_high_bits(case.header, random);
             }
-            to.hold("made-up headers", &K::case(case))?;
+            to.hold("made-up headers", &case)?;
         }
         Ok(())
     })
 }
 
 /// Several causes at once, over the small files.
-pub fn with_several_causes<K: Kind>(to: &mut Comparison, random: &mut Random) -> Held {
+pub fn with_several_causes(to: &mut Comparison, random: &mut Random) -> Held {
     for_each(to, random, |to, sample, _| {
         for (file, tree) in with_causes(&sample.file, &sample.tree) {
             let case = Collecting::of(file, &tree, sample.records.len(), ROOM);
-            to.hold("several causes", &K::case(case))?;
+            to.hold("several causes", &case)?;
         }
         Ok(())
     })
 }
 
 /// Every base of the small files, and huge ones: the root at its address, and where it stands.
-pub fn at_every_base<K: Kind>(to: &mut Comparison, random: &mut Random) -> Held {
+pub fn at_every_base(to: &mut Comparison, random: &mut Random) -> Held {
     for_each(to, random, |to, sample, _| {
         let whole = of(sample, sample.records.len());
         for base in block::every(sample.file.len()) {
             let mut case = whole.at(base);
-            to.hold("every base", &K::case(case))?;
+            to.hold("every base", &case)?;
             case.header[4] = case.header[4].wrapping_sub(base);
-            to.hold("every base", &K::case(case))?;
+            to.hold("every base", &case)?;
         }
         Ok(())
     })
@@ -147,38 +147,35 @@ pub fn at_every_base<K: Kind>(to: &mut Comparison, random: &mut Random) -> Held 
 
 /// Trees behind blocks, at any geometry: whole, into an output of any length, from other bases,
 /// cut, and damaged.
-pub fn behind_blocks<K: Kind>(to: &mut Comparison, random: &mut Random) -> Held {
+pub fn behind_blocks(to: &mut Comparison, random: &mut Random) -> Held {
     for_some_behind_blocks(to, random, |to, sample, random| {
-        to.hold_whole::<K>("behind blocks", sample)?;
+        to.hold_whole("behind blocks", sample)?;
         let length = sample.records.len();
         let short = random.up_to(length as u64) as usize;
-        to.hold("behind blocks", &K::case(of(sample, short)))?;
+        to.hold("behind blocks", &of(sample, short))?;
         let whole = of(sample, length);
         for base in block::some(sample.file.len(), random) {
-            to.hold("other bases", &K::case(whole.at(base)))?;
+            to.hold("other bases", &whole.at(base))?;
         }
         let [_, image] = sample.parts();
         let place = random.up_to(image.end as u64 - 1) as usize;
         let file = &sample.file[..place];
-        to.hold("behind blocks, cut", &K::case(Collecting { file, ..whole }))?;
+        to.hold("behind blocks, cut", &Collecting { file, ..whole })?;
         let place = image.start + random.up_to(image.len() as u64 - 1) as usize;
         sample.file[place] ^= 1 << random.up_to(7);
-        to.hold("behind blocks, damaged", &K::case(of(sample, length)))
+        to.hold("behind blocks, damaged", &of(sample, length))
     })
 }
 
 /// Nodes that point at one another at random, deep ones and shared ones among them.
-pub fn of_random_graphs<K: Kind>(to: &mut Comparison, random: &mut Random) -> Held {
+pub fn of_random_graphs(to: &mut Comparison, random: &mut Random) -> Held {
     for _ in 0..GRAPHS {
         let (file, tree) = grafted(Random::bytes, random);
         let output = match random.up_to(3) {
             0 => random.any_magnitude(ROOM as u64) as usize,
             _ => 4_000,
         };
-        to.hold(
-            "random graphs",
-            &K::case(Collecting::of(&file, &tree, output, ROOM)),
-        )?;
+        to.hold("random graphs", &Collecting::of(&file, &tree, output, ROOM))?;
     }
     Ok(())
 }
@@ -195,25 +192,25 @@ const LARGE: [(Sizes, usize); 7] = [
 ];
 
 /// Large files: whole, into a short output, cut anywhere, and with a bit or a byte turned anywhere.
-pub fn of_many_records<K: Kind>(to: &mut Comparison, random: &mut Random) -> Held {
+pub fn of_many_records(to: &mut Comparison, random: &mut Random) -> Held {
     for (turn, (sizes, times)) in LARGE.into_iter().enumerate() {
         let sample = Sample::new(to.by, sizes, turn % 2 == 0, random);
         let mut sample = sample.ok_or("a large tree was refused")?;
         let [_, image] = sample.parts();
         let whole = sample.records.len();
-        to.hold_whole::<K>("large", &sample)?;
+        to.hold_whole("large", &sample)?;
         let short = random.up_to(whole as u64) as usize;
-        to.hold("large", &K::case(of(&sample, short)))?;
+        to.hold("large", &of(&sample, short))?;
         for _ in 0..times {
             let place = image.start + random.up_to(image.len() as u64 - 1) as usize;
             let cut = Collecting {
                 file: &sample.file[..place],
                 ..of(&sample, whole)
             };
-            to.hold("large, cut", &K::case(cut))?;
+            to.hold("large, cut", &cut)?;
             let turn = [1 << random.up_to(7), 0xff][random.up_to(1) as usize];
             sample.file[place] ^= turn;
-            to.hold("large, damaged", &K::case(of(&sample, whole)))?;
+            to.hold("large, damaged", &of(&sample, whole))?;
             sample.file[place] ^= turn;
         }
     }
@@ -221,25 +218,25 @@ pub fn of_many_records<K: Kind>(to: &mut Comparison, random: &mut Random) -> Hel
 }
 
 /// The collecting of a sample's tree into an output of a length.
-pub(in crate::calls) fn of(sample: &Sample, output_length: usize) -> Collecting<'_> {
+fn of(sample: &Sample, output_length: usize) -> Collecting<'_> {
     let room = ROOM.max(sample.records.len());
     Collecting::of(&sample.file, &sample.tree, output_length, room)
 }
 
 impl Comparison {
     /// Holds the collecting from every front of a file, the whole one too.
-    fn hold_every_end<K: Kind>(&mut self, class: &'static str, whole: Collecting) -> Held {
+    fn hold_every_end(&mut self, class: &'static str, whole: &Collecting) -> Held {
         for length in 0..=whole.file.len() {
             let file = &whole.file[..length];
-            self.hold(class, &K::case(Collecting { file, ..whole }))?;
+            self.hold(class, &Collecting { file, ..*whole })?;
         }
         Ok(())
     }
 
     /// Holds the collecting of a whole tree to what was written, too.
-    fn hold_whole<K: Kind>(&mut self, class: &'static str, sample: &Sample) -> Held {
+    fn hold_whole(&mut self, class: &'static str, sample: &Sample) -> Held {
         let (tree, whole) = (&sample.tree, sample.records.len());
-        let collecting = K::case(of(sample, whole));
+        let collecting = of(sample, whole);
         self.hold(class, &collecting)?;
         let case = || format!("whole {tree:?}");
         let mut lent = [vec![0; whole]];

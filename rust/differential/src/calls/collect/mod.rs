@@ -5,7 +5,7 @@ mod faults;
 
 use std::fmt;
 
-use nuldrafon::{raw, CollectError, Collected, Header};
+use nuldrafon::raw;
 
 use super::based::{Based, OfTree};
 use super::case::{array, within_leaf_checksum, Case, Fault, Told, WITHIN_LEAF_CHECKSUM};
@@ -14,7 +14,6 @@ use crate::compare::bytes::{beginning, pattern, same_bytes};
 use crate::compare::{rust, same, Held};
 use crate::inputs::Tree;
 use crate::model;
-pub(super) use families::of;
 pub use families::{
     as_written, at_every_base, behind_blocks, cut, damaged, ending_in_a_leaf, of_any_geometry,
     of_many_records, of_random_graphs, with_made_up_headers, with_several_causes,
@@ -22,23 +21,6 @@ pub use families::{
 
 /// Files up to this long are also collected into a buffer that the crate makes.
 const TO_VEC: usize = 1 << 16;
-
-/// A kind of collecting, and its case of an input that every kind takes.
-pub trait Kind {
-    type Case<'a>: Case<Answer = [u64; 7], Lent = [Vec<u8>; 1]>;
-    fn case(input: Collecting<'_>) -> Self::Case<'_>;
-}
-
-/// Collecting with the tests of document 01.
-pub struct Plain;
-
-impl Kind for Plain {
-    type Case<'a> = Collecting<'a>;
-
-    fn case(input: Collecting<'_>) -> Collecting<'_> {
-        input
-    }
-}
 
 /// A collecting into an output of a length, by a header's figures as they go over and the offset
 /// size. Where the output is too short, the Rust, which has none, is asked only if the model finds
@@ -104,7 +86,18 @@ impl Case for Collecting<'_> {
     }
 
     fn model(&self, [output]: &mut Self::Lent) -> Self::Answer {
-        model_answer(model::collect(self.file, &self.tree(), output))
+        let collected = model::collect(self.file, &self.tree(), output);
+        let counts = collected.counts;
+        let [number, first, second] = array(collected.answer.map(|()| []));
+        [
+            number,
+            first,
+            second,
+            counts.records,
+            counts.leaves,
+            counts.internals,
+            counts.internal_records,
+        ]
     }
 
     fn without_base(&self, [output]: &mut Self::Lent) -> Option<Self::Answer> {
@@ -152,8 +145,26 @@ impl Case for Collecting<'_> {
         }))
     }
 
+    /// The collecting into a buffer that the crate makes: what comes into a lent one as long as the
+    /// part of the file.
     fn hold_others(&self, _: &Self::Answer, _: &Self::Lent) -> Held {
-        self.hold_to_vec(self, Header::collect_to_vec)
+        if self.file.len() > TO_VEC {
+            return Ok(());
+        }
+        let case = || format!("{self}, to a vector");
+        let lent = &mut [vec![0; self.part().map_or(0, <[u8]>::len)]];
+        let answer = self.rattle(lent);
+        let collected = typed::header(&self.tree()).collect_to_vec(self.file);
+        let counts = collected.as_ref().map(|collected| collected.counts);
+        let told = typed_answer(counts.map_err(|error| *error));
+        same(told, answer, "the lent", case)?;
+        match collected {
+            Ok(collected) => {
+                let put = &lent[0][..self.put_out(&answer)];
+                same_bytes(&collected.records, put, "the lent", case)
+            }
+            Err(_) => Ok(()),
+        }
     }
 
     fn faults() -> Vec<Fault<Self>> {
@@ -161,23 +172,8 @@ impl Case for Collecting<'_> {
     }
 }
 
-/// The numbers of a collecting by the model.
-pub(super) fn model_answer(collected: model::Collected) -> [u64; 7] {
-    let counts = collected.counts;
-    let [number, first, second] = array(collected.answer.map(|()| []));
-    [
-        number,
-        first,
-        second,
-        counts.records,
-        counts.leaves,
-        counts.internals,
-        counts.internal_records,
-    ]
-}
-
 /// The numbers of a collecting by the crate's types.
-pub(super) fn typed_answer(answer: Result<nuldrafon::Counts, CollectError>) -> [u64; 7] {
+fn typed_answer(answer: Result<nuldrafon::Counts, nuldrafon::CollectError>) -> [u64; 7] {
     let (told, counts) = match answer {
         Ok(counts) => ([0; 3], counts),
         Err(error) => (error.refusal.told(), error.counts),
@@ -216,37 +212,8 @@ impl<'a> Collecting<'a> {
         answer[0] == 1 && within_leaf_checksum(collect().answer)
     }
 
-    /// Holds the collecting into a buffer that the crate makes, of this kind of case, to what comes
-    /// into a lent one as long as the part of the file.
-    pub(super) fn hold_to_vec<C>(
-        &self,
-        kind: &C,
-        to_vec: fn(&Header, &[u8]) -> Result<Collected, CollectError>,
-    ) -> Held
-    where
-        C: Case<Answer = [u64; 7], Lent = [Vec<u8>; 1]>,
-    {
-        if self.file.len() > TO_VEC {
-            return Ok(());
-        }
-        let case = || format!("{self}, to a vector");
-        let lent = &mut [vec![0; self.part().map_or(0, <[u8]>::len)]];
-        let answer = kind.rattle(lent);
-        let collected = to_vec(&typed::header(&self.tree()), self.file);
-        let counts = collected.as_ref().map(|collected| collected.counts);
-        let told = typed_answer(counts.map_err(|error| *error));
-        same(told, answer, "the lent", case)?;
-        match collected {
-            Ok(collected) => {
-                let put = &lent[0][..self.put_out(&answer)];
-                same_bytes(&collected.records, put, "the lent", case)
-            }
-            Err(_) => Ok(()),
-        }
-    }
-
     /// The bytes of the records that an answer says were put out.
-    pub(super) fn put_out(&self, answer: &[u64; 7]) -> usize {
+    fn put_out(&self, answer: &[u64; 7]) -> usize {
         (answer[3] as usize).saturating_mul(self.record_size())
     }
 

@@ -92,8 +92,7 @@ impl Way {
             }
             if level > 0 {
                 let last = node.children.len() - 1;
-                let child = node.children[(self.child)(index).min(last)];
-                (address, count) = (child.address, child.records);
+                (address, count) = node.children[(self.child)(index).min(last)];
             }
         }
         numbers([0; 3], read, kept)

@@ -1,3 +1,0 @@
--- The definitions that the contracts and the theorems of the crate cite.
-pub mod Checked
-pub mod Satisfied
