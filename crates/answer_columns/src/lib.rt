@@ -1,5 +1,7 @@
 // Numbers put into a C caller's array: a column of numbers, and the capacity table's answer, which is made of columns.
 
+#![tactic(auto)]
+
 ghost use Rattle.std.specs.Prelude.{◌≡◌, ◌+◌, ◌≤◌, length, replicate};
 ghost use Rattle.numbers.specs.Places.{stored, put};
 ghost use Rattle.refusal.specs.Answer.{cells, refusal_of};

@@ -1,6 +1,8 @@
 // How every call's answer is put into a C caller's array: the refusal's number, 0 where the call is accepted, then the figures or the refusal's
 // values, then zeros.
 
+#![tactic(auto)]
+
 ghost use Rattle.std.specs.Prelude.{◌≡◌, get_or};
 ghost use Rattle.refusal.specs.Answer.{cells, refusal_of, put_answer_of};
 ghost use Rattle.plan.specs.Planned.{plan_answer_of};

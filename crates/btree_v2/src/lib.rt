@@ -1,6 +1,8 @@
 // The calls as C functions, on numbers and slices. Each fills its whole answer, an array of numbers behind one pointer: the refusal's
 // number, 0 where the call is accepted, then the figures or the refusal's values, then zeros.
 
+#![tactic(auto)]
+
 ghost use Rattle.std.specs.Prelude.{◌≡◌, [], ◌∷◌, ◌≤◌, length};
 ghost use Rattle.refusal.specs.Answer.{cells};
 ghost use Rattle.node_info.specs.Table.{tabled};

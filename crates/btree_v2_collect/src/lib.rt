@@ -1,11 +1,13 @@
 // Collecting the records of a version 2 B-tree.
 
+#![tactic(auto)]
+
 use refusal::Verdict;
 
 pub mod collect;
 
 // Records put out, leaves read, internal nodes read, and records from internal nodes, each saturated at 2^64 - 1.
-#[derive(Drop)]
+#[derive(Clone, Copy)]
 pub struct Tally {
     pub records: u64,
     pub leaves: u64,
@@ -13,7 +15,7 @@ pub struct Tally {
     pub internal_records: u64,
 }
 
-#[derive(Drop)]
+#[derive(Clone, Copy)]
 pub struct Collected {
     pub verdict: Verdict,
     pub tally: Tally,

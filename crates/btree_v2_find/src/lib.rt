@@ -1,5 +1,7 @@
 // Finding a record by its key: a descent through the tree, one node of each level.
 
+#![tactic(auto)]
+
 ghost use Rattle.std.specs.Prelude.{◌≡◌, true};
 ghost use Rattle.field.specs.Field.{number_field, number_at};
 ghost use Rattle.btree_v2_collect.specs.Collect.{collect_tests};
@@ -14,14 +16,14 @@ use node_info::{Geometry, NodeInfo};
 use refusal::{Refusal, Verdict};
 
 // The place of a record in the part of the file from the header's base on, where there is one.
-#[derive(Drop)]
+#[derive(Clone, Copy)]
 pub enum Place {
     Nowhere,
     At(u64),
 }
 
 // What finding answers: the nodes read, refused or not, and the place of the record that was found.
-#[derive(Drop)]
+#[derive(Clone, Copy)]
 pub struct Found {
     pub verdict: Verdict,
     pub nodes: u64,

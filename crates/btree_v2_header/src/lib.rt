@@ -1,5 +1,7 @@
 // The header reader.
 
+#![tactic(auto)]
+
 ghost use Rattle.std.specs.Prelude.{◌≡◌, true, ◌+◌, ◌≤◌, length};
 ghost use Rattle.numbers.specs.Numbers.{field_size, num};
 ghost use Rattle.btree_v2_header.specs.Header.{with_base, header_at};
@@ -10,7 +12,7 @@ use node_info::Geometry;
 use refusal::{Refusal, Verdict};
 
 // The header, as it stands in a file, and the base of that file.
-#[derive(Drop)]
+#[derive(Clone, Copy)]
 pub struct BTreeV2Header {
     pub tree_type: u8,
     pub geometry: Geometry,
@@ -24,7 +26,7 @@ pub struct BTreeV2Header {
     pub base: u64,
 }
 
-#[derive(Drop)]
+#[derive(Clone, Copy)]
 pub enum HeaderAnswer {
     Parsed(BTreeV2Header),
     Refused(Refusal),

@@ -1,5 +1,7 @@
 // Internal nodes: their tests, of the front, which every node has, and of the body; and the child that a pointer leads to.
 
+#![tactic(auto)]
+
 ghost use Rattle.std.specs.Prelude.{◌≡◌, ◌<◌};
 ghost use Rattle.refusal.specs.Answer.{verdict_of};
 ghost use Rattle.node_info.specs.Capacity.{child_pointer_size};
@@ -10,7 +12,7 @@ use node_info::Geometry;
 use refusal::{Refusal, Verdict};
 
 // A node as the pointer to it has it.
-#[derive(Drop)]
+#[derive(Clone, Copy)]
 pub struct Node {
     pub address: u64,
     pub records: u16,

@@ -1,5 +1,7 @@
 // A leaf's tests: its front, which every node has, and its body; with every check its version and type between them.
 
+#![tactic(auto)]
+
 ghost use Rattle.std.specs.Prelude.{◌≡◌};
 ghost use Rattle.refusal.specs.Answer.{verdict_of};
 ghost use Rattle.btree_v2_leaf.specs.Leaf.{leaf_body, leaf_test, checked_leaf};

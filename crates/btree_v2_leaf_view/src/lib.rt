@@ -1,6 +1,8 @@
 // A borrowed look at a leaf's records, and one record copied out. A function that takes, makes or holds a view is a walk proved by hand;
 // the functions under it take slices and numbers.
 
+#![tactic(auto)]
+
 ghost use Rattle.std.specs.Prelude.{◌≡◌, drop};
 ghost use Rattle.btree_v2_leaf_view.specs.Look.{look_test, bytes_if, record_seen, look_test_at, look_bytes_at, record_answer_at, record_exit_at};
 ghost use Rattle.refusal.specs.Answer.{verdict_of, put_answer_of};

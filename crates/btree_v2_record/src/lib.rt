@@ -1,6 +1,8 @@
 // Records by their meaning: the values of a record of type 5, 6, 8 or 9 read, and a record written from its values. The types and their fields
 // are a table; each loop goes over the fields of one type.
 
+#![tactic(auto)]
+
 ghost use Rattle.std.specs.Prelude.{◌≡◌, ◌+◌, ◌-◌, ◌^◌, ◌≤◌, ◌<◌, ltb, length, replicate, set};
 ghost use Rattle.numbers.specs.Numbers.{pick, part, num};
 ghost use Rattle.numbers.specs.Places.{stored};
@@ -12,7 +14,7 @@ ghost use Rattle.btree_v2_record.specs.Steps.{all_fields, field_at, Meanings, Wi
 use refusal::{PutAnswer, Refusal};
 
 // The values of a record; 0 where its type lacks the field.
-#[derive(Drop)]
+#[derive(Clone, Copy)]
 pub struct RecordValues {
     pub name_hash: u64,
     pub heap_id: u64,
@@ -20,7 +22,7 @@ pub struct RecordValues {
     pub creation_order: u64,
 }
 
-#[derive(Drop)]
+#[derive(Clone, Copy)]
 pub enum ValuesAnswer {
     Read(RecordValues),
     Refused(Refusal),

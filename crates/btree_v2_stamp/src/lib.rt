@@ -1,6 +1,8 @@
 // What stands around the contents of the header and of every node: signature, version and type in front, checksum and zeros behind; and the
 // header itself. A budget says how many of these fields are put.
 
+#![tactic(auto)]
+
 ghost use Rattle.std.specs.Prelude.{◌≡◌, [], ◌∷◌, ◌≤◌, length, replicate};
 ghost use Rattle.numbers.specs.Places.{stored, put};
 ghost use Rattle.format.specs.Bytes.{header_bytes};

@@ -16,7 +16,7 @@ pub(crate) fn whole() -> usize
 }
 
 // Where the next field of a node goes, and how many fields may still be put. Where none may, the place goes on all the same.
-#[derive(Drop)]
+#[derive(Clone, Copy)]
 pub(crate) struct Progress {
     at: usize,
     left: usize,

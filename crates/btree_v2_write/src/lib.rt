@@ -1,5 +1,7 @@
 // The writing call: a header and the nodes of a version 2 B-tree, put into two lent buffers.
 
+#![tactic(auto)]
+
 ghost use Rattle.std.specs.Prelude.{◌≡◌};
 ghost use Rattle.btree_v2_write.specs.Call.{Accepted, Outputs, Wrote};
 ghost use Rattle.plan.specs.Planned.{plan_answer_of};

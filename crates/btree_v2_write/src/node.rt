@@ -44,7 +44,7 @@ pub(crate) fn write_leaf(
 }
 
 // A child in numbers, as its writing returns it: its root's records, all its records, and its nodes.
-#[derive(Drop)]
+#[derive(Clone, Copy)]
 pub(crate) struct Child {
     pub(crate) records: u64,
     pub(crate) total: u64,
@@ -105,7 +105,7 @@ fn one_of(extra: usize, large: Child, small: Child, i: usize) -> Child
 // An internal node in numbers: it keeps `kept` records; its `kept` + 1 children have `base` records, the first `extra` of them one more; the
 // first nodes and records below it are node `first_node` and record `first_record`; in a pointer, record counts have `count_size` bytes and
 // totals `total_size`.
-#[derive(Drop)]
+#[derive(Clone, Copy)]
 pub(crate) struct InternalNode {
     pub(crate) kept: usize,
     pub(crate) base: usize,

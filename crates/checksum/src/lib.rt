@@ -1,10 +1,12 @@
 // Bob Jenkins' lookup3 (hashlittle, start value 0), the checksum of HDF5's metadata.
 
+#![tactic(auto)]
+
 ghost use Rattle.std.specs.Prelude.{◌≡◌, ◌+◌, ◌-◌, ◌<◌, ◌≤◌, length, drop, slice_index_or};
 ghost use Rattle.checksum.specs.Lookup3.{rotated, mix_line_of, mixed, final_line_of, final_mixed, started, word, block_added, ended, lookup3};
 
 // The three words of lookup3's state.
-#[derive(Drop)]
+#[derive(Clone, Copy)]
 pub struct Words {
     pub a: u32,
     pub b: u32,

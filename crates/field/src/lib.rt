@@ -1,11 +1,13 @@
 // A number field inside a record: whether a record has it, and its number.
 
+#![tactic(auto)]
+
 ghost use Rattle.std.specs.Prelude.{◌≡◌, ◌+◌, ◌%◌, ◌^◌, ◌≤◌, ◌<◌, min, leb, length, get_or};
 ghost use Rattle.numbers.specs.Numbers.{pick, num};
 ghost use Rattle.field.specs.Field.{number_field};
 
 // Where the field begins in a record, and its bytes, low byte first.
-#[derive(Drop)]
+#[derive(Clone, Copy)]
 pub struct Field {
     pub start: u64,
     pub width: u64,

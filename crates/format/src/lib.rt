@@ -1,5 +1,7 @@
 // What writer and readers share: the sizes that the format fixes, and what a write is given. The bytes are definitions, with no code.
 
+#![tactic(auto)]
+
 use node_info::Geometry;
 
 // Bytes of a node before its records: signature, version, type.
@@ -9,7 +11,7 @@ pub const PREFIX_SIZE: u64 = 6;
 pub const HEADER_OVERHEAD: u64 = 22;
 
 // The numbers that a write is given.
-#[derive(Drop)]
+#[derive(Clone, Copy)]
 pub struct Request {
     pub tree_type: u8,
     pub record_count: u64,

@@ -1,5 +1,7 @@
 // The header that a C caller's figures tell.
 
+#![tactic(auto)]
+
 ghost use Rattle.std.specs.Prelude.{◌≡◌, get_or};
 ghost use Rattle.header_figures.specs.Figures.{header_from};
 

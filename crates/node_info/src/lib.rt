@@ -1,5 +1,7 @@
 // The capacity table of a version 2 B-tree: what a node and a subtree of each level hold, and the widths of a child pointer's fields.
 
+#![tactic(auto)]
+
 ghost use Rattle.std.specs.Prelude.{◌≡◌, leb};
 ghost use Rattle.numbers.specs.Numbers.{pick};
 ghost use Rattle.node_info.specs.Capacity.{leaf_capacity, child_pointer_size, internal_capacity};
@@ -8,7 +10,7 @@ ghost use Rattle.node_info.specs.Table.{info_at, next_level, no_info, tabled, ta
 use refusal::{Refusal, Verdict};
 
 // A tree's sizes in bytes: of a node, of a record, and of an address.
-#[derive(Drop)]
+#[derive(Clone, Copy)]
 pub struct Geometry {
     pub node_size: u32,
     pub record_size: u16,
@@ -16,7 +18,7 @@ pub struct Geometry {
 }
 
 // The table; an entry above the depth that it was made for is 0.
-#[derive(Drop)]
+#[derive(Clone, Copy)]
 pub struct NodeInfo {
     // width of a child's record count (W)
     pub max_nrec_size: u8,
@@ -29,14 +31,14 @@ pub struct NodeInfo {
 }
 
 // An array can't stand in an enum, so the table stands beside the verdict: all zeros where it is refused.
-#[derive(Drop)]
+#[derive(Clone, Copy)]
 pub struct NodeInfoAnswer {
     pub verdict: Verdict,
     pub info: NodeInfo,
 }
 
 // A level's entries: M, C and T.
-#[derive(Drop)]
+#[derive(Clone, Copy)]
 pub struct Level {
     pub most: u64,
     pub all: u64,

@@ -1,6 +1,8 @@
 // Numbers: little-endian in byte slices, parts of these and bytes put into them; the byte width of a count, saturated sums and products, and the
 // sizes that offsets and lengths may have.
 
+#![tactic(auto)]
+
 ghost use Rattle.std.specs.Prelude.{◌≡◌, ◌+◌, ◌≤◌, min, ◌*◌, leb, length};
 ghost use Rattle.numbers.specs.Numbers.{pick, le, part, num, saturated, width, field_size};
 ghost use Rattle.numbers.specs.Places.{put};

@@ -1,5 +1,7 @@
 // The planner: the shape of the tree that is written for a number of records, without walking its nodes.
 
+#![tactic(auto)]
+
 ghost use Rattle.std.specs.Prelude.{◌≡◌, not, ◌&&◌, ℕ, ◌+◌, ◌-◌, ◌*◌, ◌/◌, ◌%◌, ◌^◌, ◌≤◌, ◌<◌, ltb, eqb};
 ghost use Rattle.refusal.specs.Answer.{refusal_of};
 ghost use Rattle.node_info.specs.Table.{no_info};
@@ -18,7 +20,7 @@ const NODE_SIZE_MAX: u32 = 65536;
 const RECORDS_MAX: u64 = 16777215;
 
 // The figures of a planned tree.
-#[derive(Drop)]
+#[derive(Clone, Copy)]
 pub struct BTreeV2Plan {
     pub depth: u16,
     pub nodes: u64,
@@ -26,21 +28,21 @@ pub struct BTreeV2Plan {
     pub image_size: u64,
 }
 
-#[derive(Drop)]
+#[derive(Clone, Copy)]
 pub enum PlanAnswer {
     Planned(BTreeV2Plan),
     Refused(Refusal),
 }
 
 // An answer with the capacity table of the plan's depth, zeros where it is refused.
-#[derive(Drop)]
+#[derive(Clone, Copy)]
 pub struct PlanAndTable {
     pub answer: PlanAnswer,
     pub info: NodeInfo,
 }
 
 // How a node's records are distributed: it keeps `kept`, and of its `kept` + 1 children the first `extra` get `base` + 1 and the others `base`.
-#[derive(Drop)]
+#[derive(Clone, Copy)]
 pub struct Distribution {
     pub kept: u64,
     pub base: u64,
@@ -84,7 +86,7 @@ pub fn distribute(most: u64, n: u64) -> Distribution
 }
 
 // The same by the number of children.
-#[derive(Drop)]
+#[derive(Clone, Copy)]
 struct Shares {
     parts: u64,
     base: u64,
@@ -104,7 +106,7 @@ fn split(most: u64, n: u64) -> Shares
 }
 
 // The nodes and leaves of a subtree.
-#[derive(Drop)]
+#[derive(Clone, Copy)]
 struct Counts {
     nodes: u64,
     leaves: u64,
@@ -177,7 +179,7 @@ impl PlanAndTable {
 }
 
 // What the search for the depth finds: a level, the table up to it, and whether the level is enough.
-#[derive(Drop)]
+#[derive(Clone, Copy)]
 struct Deepened {
     info: NodeInfo,
     depth: u16,

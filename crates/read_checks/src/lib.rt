@@ -1,5 +1,7 @@
 // Tests that the header reader, the leaf's look and the readers of a tree share.
 
+#![tactic(auto)]
+
 ghost use Rattle.std.specs.Prelude.{◌≡◌, [], ◌∷◌, ◌+◌, ◌-◌, length};
 ghost use Rattle.numbers.specs.Numbers.{part};
 ghost use Rattle.refusal.specs.Answer.{accepted, verdict_of};

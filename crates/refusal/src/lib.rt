@@ -1,10 +1,12 @@
 // The causes for which a call is refused, the number and values of each, the verdict of a test, and the answer of a call that puts bytes out.
 
+#![tactic(auto)]
+
 ghost use Rattle.std.specs.Prelude.{◌≡◌, [], ◌∷◌};
 ghost use Rattle.refusal.specs.Answer.{refusal_of, verdict_of, cells};
 
 // A cause, named as in hdf5-pure where that has it.
-#[derive(Drop)]
+#[derive(Clone, Copy)]
 pub enum Refusal {
     // 1: the file ends early
     UnexpectedEof { expected: u64, available: u64 },
@@ -53,7 +55,7 @@ pub enum Refusal {
 }
 
 // A cause's number and its values, 0 where it has fewer than two.
-#[derive(Drop)]
+#[derive(Clone, Copy)]
 pub struct Code {
     pub number: u64,
     pub first: u64,
@@ -108,7 +110,7 @@ impl Refusal {
 }
 
 // The verdict of a test.
-#[derive(Drop)]
+#[derive(Clone, Copy)]
 pub enum Verdict {
     Accepted,
     Refused(Refusal),
@@ -127,7 +129,7 @@ impl Verdict {
 }
 
 // The length of what was put at the front of an output, or why nothing was.
-#[derive(Drop)]
+#[derive(Clone, Copy)]
 pub enum PutAnswer {
     Put(u64),
     Refused(Refusal),

@@ -4,7 +4,7 @@ ghost use Rattle.replay.specs.Counted.{counted};
 
 use libc::STDOUT_FILENO;
 
-#[derive(Drop)]
+#[derive(Clone, Copy)]
 pub(crate) struct Tally {
     pub(crate) agreed: u64,
     pub(crate) differed: u64,

@@ -1,5 +1,7 @@
 // A write, the header reader and the collector, one after another: demand 3 as one claim on the three calls.
 
+#![tactic(auto)]
+
 ghost use Rattle.round_trip.specs.ThreeCalls.{lent, on_parsed, Collects, Answered};
 
 use btree_v2_collect::{Collected, Tally};
@@ -9,7 +11,7 @@ use plan::PlanAnswer;
 use refusal::Verdict;
 
 // The three calls' answers. Where the header is refused, nothing is collected and the verdict is that refusal.
-#[derive(Drop)]
+#[derive(Clone, Copy)]
 pub struct RoundTrip {
     pub written: PlanAnswer,
     pub header: HeaderAnswer,

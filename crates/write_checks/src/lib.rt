@@ -1,5 +1,7 @@
 // Every refusal of a write, decided from numbers alone: no buffer is lent here.
 
+#![tactic(auto)]
+
 ghost use Rattle.std.specs.Prelude.{◌≡◌, true, ◌-◌, ◌*◌, ◌^◌, ◌<◌};
 ghost use Rattle.numbers.specs.Numbers.{field_size};
 ghost use Rattle.refusal.specs.Answer.{verdict_of};
@@ -11,7 +13,7 @@ use plan::{BTreeV2Plan, PlanAndTable, PlanAnswer};
 use refusal::{Refusal, Verdict};
 
 // The lengths of the lent buffers.
-#[derive(Drop)]
+#[derive(Clone, Copy)]
 pub struct Lengths {
     pub records: u64,
     pub header: u64,
