@@ -7,7 +7,7 @@ use native.Mathlib.Numerals.{add-one}
 use native.Mathlib.Omega.{arith}
 use lib.ListN.{length, get_or, take, drop, set, replicate, length-append, length-set}
 use lib.Seq.{length-take-le, take_all, take-suc, take-length, drop-length}
-use borrow.Author.Rules.{zero≤}
+use Rattle.std.proofs.Common.{zero-le}
 use Rattle.numbers.specs.Places.{stored, put}
 use Rattle.numbers.proofs.Lists.{stored_nil, stored_snoc, stored_append, stored_whole, put_fits, put_not}
 use Rattle.refusal.specs.declared.Refusal.{Refusal}
@@ -24,7 +24,7 @@ Copied o at column d i = (i ≤ length column) × (length d ≡ length o) × (d 
 
 module _ (o : List ℕ) (at : ℕ) (column : List ℕ) where
   pub copied-start : Copied o at column o 0
-  copied-start = (zero≤, refl, rw stored_nil)
+  copied-start = (zero-le, refl, rw stored_nil)
 
   module _ (d : List ℕ) (i : ℕ) (inv : Copied o at column d i) where
     pub copied-turn : at + length column ≤ length o → i < length column
@@ -73,7 +73,7 @@ two (_ ∷ []) x y h = absurd (omega arith)
 two (_ ∷ _ ∷ r) x y h = refl
 
 next : (o b c : List ℕ) (p : ℕ) → length b ≡ p → stored (stored o 0 b) p c ≡ stored o 0 (b ++ c)
-next o b c p e = rw (← e, ← zero-add (length b)) (stored_append o 0 b zero≤ c)
+next o b c p e = rw (← e, ← zero-add (length b)) (stored_append o 0 b zero-le c)
 
 columns : (w : ℕ) (m s t a : List ℕ) → length m ≡ 33 → length s ≡ 33 → length t ≡ 33 → length a ≡ 101
     → stored (stored (stored (set (set a 0 0) 1 w) 2 m) 35 s) 68 t ≡ cells 101 (accepted (w ∷ (m ++ (s ++ t))))

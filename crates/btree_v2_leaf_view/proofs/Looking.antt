@@ -7,7 +7,7 @@ use native.Mathlib.Nat.{mul-le-mul_right}
 use native.Mathlib.Omega.{arith}
 use lib.Dec.{ltb}
 use lib.ListN.{length}
-use borrow.Author.Rules.{zero≤}
+use Rattle.std.proofs.Common.{zero-le}
 use borrow.Author.Tests.{ltb-true, lt-ltb, le-ltb}
 use Rattle.numbers.specs.Numbers.{pick, part}
 use Rattle.numbers.proofs.Lists.{length_part, part_part, part_past}
@@ -71,5 +71,5 @@ module _ (file : List ℕ) (rs a n : ℕ) where
   look_refused number values e i = rw e (none (ltb i n))
     where
       none : (b : Bool) → pick {A = List ℕ} b (part [] (i * rs) rs) [] ≡ []
-      none true = part_past [] (i * rs) rs zero≤
+      none true = part_past [] (i * rs) rs zero-le
       none false = refl

@@ -9,7 +9,7 @@ use lib.Dec.{leb, ltb, eqb, lit≤}
 use lib.ListN.{length, get_or, set, take, drop, replicate, length-set}
 use lib.Pow.{pow_pos}
 use lib.Seq.{drop-drop}
-use borrow.Author.Rules.{zero≤}
+use Rattle.std.proofs.Common.{zero-le}
 use borrow.Author.Tests.{le-leb, lt-ltb, eq-eqb, ne_eqb, ltb-true, ltb-false, not-true, not-false}
 use Rattle.numbers.specs.Numbers.{pick, le, unle, part, num}
 use Rattle.numbers.specs.Places.{stored, put}
@@ -42,7 +42,7 @@ left_wide : (first i w : ℕ) → first + 4 ≤ 16 → i < 4 → (w ≡ (field_a
 left_wide first i w fits h width = rw (left_turn first i fits h, length_more, width.0)
 
 pub summed_start : (first : ℕ) → Summed first 0 0
-summed_start first = record { few = zero≤; small = zero≤; leads = rw (left_all, zero-add) }
+summed_start first = record { few = zero-le; small = zero-le; leads = rw (left_all, zero-add) }
 
 module _ (first sum i : ℕ) (inv : Summed first sum i) where
   pub summed_turn : (w : ℕ) → first + 4 ≤ 16 → i < 4 → (w ≡ (field_at (first + i)).width) × (w ≤ 8) → Summed first (sum + w) (i + 1)
@@ -84,7 +84,7 @@ unfolding values_fit
 fit_more f fs v = refl
 
 pub fitting_start : (first : ℕ) (v : List ℕ) → Fitting first v 0
-fitting_start first v = record { few = zero≤; leads = rw left_all }
+fitting_start first v = record { few = zero-le; leads = rw left_all }
 
 module _ (first : ℕ) (v : List ℕ) (i : ℕ) (inv : Fitting first v i) where
   module _ (m w : ℕ) (b : Bool) (fits : first + 4 ≤ 16) (h : i < 4) (meaning : (m ≡ (field_at (first + i)).meaning) × (m < 4))
@@ -115,7 +115,7 @@ unfolding record_bytes
 bytes_more f fs v = refl
 
 pub putting_start : (first : ℕ) (v o : List ℕ) → record_length (four first) ≤ length o → Putting first v o o 0 0
-putting_start first v o h = record { few = zero≤; long = refl; room = rw (left_all, zero-add) h; leads = rw left_all }
+putting_start first v o h = record { few = zero-le; long = refl; room = rw (left_all, zero-add) h; leads = rw left_all }
 
 module _ (first : ℕ) (v o d : List ℕ) (at i : ℕ) (inv : Putting first v o d at i) where
   pub putting_turn : (m w at₁ : ℕ) (e : List ℕ) → first + 4 ≤ 16 → i < 4 → (m ≡ (field_at (first + i)).meaning) × (m < 4)
@@ -165,7 +165,7 @@ unfolding filled
 filled_more f fs b v = refl
 
 pub filling_start : (first : ℕ) (b : List ℕ) → length b ≡ record_length (four first) → Filling first b (replicate 4 0) 0 0
-filling_start first b h = record { few = zero≤; long = refl; place = rw (left_all, zero-add) (sym h); leads = rw left_all }
+filling_start first b h = record { few = zero-le; long = refl; place = rw (left_all, zero-add) (sym h); leads = rw left_all }
 
 module _ (first : ℕ) (b v : List ℕ) (at i : ℕ) (inv : Filling first b v at i) where
   module _ (w : ℕ) (fits : first + 4 ≤ 16) (h : i < 4) (width : (w ≡ (field_at (first + i)).width) × (w ≤ 8)) where

@@ -8,7 +8,7 @@ use Prim.Native.Nat.{ℕ, ◌+◌, ◌-◌, ◌≤◌, ◌<◌}
 use native.Mathlib.Nat.{zero-add}
 use native.Mathlib.Omega.{arith}
 use borrow.Rule.Slice.PartMut.{put_mid}
-use borrow.Author.Rules.{zero≤}
+use Rattle.std.proofs.Common.{zero-le}
 use borrow.Author.Tests.{le-leb, lt-leb}
 use lib.ListN.{length, set, take, replicate, length-replicate}
 use lib.Seq.{drop-drop, sets-eq, take_all, length-take-le}
@@ -121,9 +121,9 @@ node_stamped o d z fields k used ns left hd hu hl h l hz =
     (λ (m : k < length fields). let none : left ≡ 0 = omega arith in rw none)
     (λ (m : length fields ≤ k).
     let all = take_all k fields m in
-    let front : take used d ≡ joined fields = rw (hd, all, hu) (rw zero-add at (take_stored_end o 0 (joined fields) zero≤)) in rw front)
+    let front : take used d ≡ joined fields = rw (hd, all, hu) (rw zero-add at (take_stored_end o 0 (joined fields) zero-le)) in rw front)
     (lt_or_le k (length fields)) in
-    rw (hz, stamped_is d used ns left (omega arith) (omega arith) (rw len l), same, hl, hd) (filled_turn o 0 used k fields (end_fields ns (joined fields)) zero≤ (rw zero-add hu))
+    rw (hz, stamped_is d used ns left (omega arith) (omega arith) (rw len l), same, hl, hd) (filled_turn o 0 used k fields (end_fields ns (joined fields)) zero-le (rw zero-add hu))
 
 end_few : (ns : ℕ) (b : List ℕ) → length (with_end ns (b ∷ [])) ≤ 3
 unfolding with_end end_fields
@@ -139,4 +139,4 @@ whole_stamped o d z b used ns hd hu h l hz =
 
 -- What was put after the front of a node.
 pub after_front : (o d e f t : List ℕ) (k : ℕ) → k ≡ length f → d ≡ stored o 0 f → e ≡ stored d k t → e ≡ stored o 0 (f ++ t)
-after_front o d e f t k hk hd he = rw (he, hd, hk) (rw zero-add at (stored_append o 0 f zero≤ t))
+after_front o d e f t k hk hd he = rw (he, hd, hk) (rw zero-add at (stored_append o 0 f zero-le t))

@@ -8,7 +8,7 @@ use Prim.Native.Nat.{ℕ, zero, suc, ◌+◌, ◌-◌, ◌*◌, ◌^◌, ◌≤�
 use native.Mathlib.Nat.{add-zero, zero-mul, suc-mul, sub-zero, add_assoc, mul-le-mul_right, le_trans, le-mul_of_pos_right}
 use native.Mathlib.Numerals.{add-one}
 use native.Mathlib.Omega.{arith}
-use borrow.Author.Rules.{zero≤}
+use Rattle.std.proofs.Common.{zero-le}
 use borrow.Author.Tests.{lt-ltb, le-ltb}
 use mir.Val.{Fits}
 use mir.Syntax.{w64}
@@ -82,7 +82,7 @@ module _ (o recs : List ℕ) (to₀ : Progress) (rs kept base extra r : ℕ) whe
   pub records_start : RecordsLeft o to₀ r 0
   records_start =
       record {
-        within = zero≤;
+        within = zero-le;
         place = rw (zero-mul, add-zero);
         reached = rw from_0;
         long = refl;
@@ -220,7 +220,7 @@ module _ (o : List ℕ) (q : Request) (to₀ : Progress) (x₀ : InternalNode) w
   pub pointers_start : Left o to₀ x₀.first_node 0
   pointers_start =
       record {
-        within = zero≤;
+        within = zero-le;
         place = rw (zero-mul, add-zero);
         reached = rw from_0;
         long = refl;
@@ -361,7 +361,7 @@ module _ (q : Request) (recs : List ℕ) (x : InternalNode) (fits : InternalNode
           → z ≡ stamped e end.at q.geometry.node_size end.left → z ≡ filled_to budget (internal_node_fields q recs x) o
       unfolding internal_node_fields
       internal_filled e z end g hz =
-          node_filled o e z budget q.geometry.node_size end _ (filled_then zero≤ f g)
+          node_filled o e z budget q.geometry.node_size end _ (filled_then zero-le f g)
           (omega (arith, internal_front, g.place, contents_long, fits.bytes)) h hz
 
   -- A node has fewer fields than the budget of a whole one.

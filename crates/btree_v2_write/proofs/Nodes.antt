@@ -4,7 +4,7 @@ use mathlib.Core.List.{List, append-nil}
 use Prim.Native.Nat.{ℕ, ◌+◌, ◌-◌, ◌*◌, ◌≤◌}
 use native.Mathlib.Nat.{add-zero, le_of_eq}
 use native.Mathlib.Omega.{arith}
-use borrow.Author.Rules.{zero≤}
+use Rattle.std.proofs.Common.{zero-le}
 use borrow.Rule.Slice.PartMut.{put_mid}
 use lib.ListN.{length, take, drop, length-drop}
 use lib.Seq.{take_all, drop-length}
@@ -31,7 +31,7 @@ unfolding leaf_fields
 leaf_filled q o d e z recs n r budget front end h k m f g hz =
     let rs = q.geometry.record_size in
     let long : length (joined (record_fields rs recs n r)) ≡ n * rs = rw records_joined (length_part recs (r * rs) (n * rs) (omega arith)) in
-    node_filled o e z budget q.geometry.node_size end _ (filled_then zero≤ f g)
+    node_filled o e z budget q.geometry.node_size end _ (filled_then zero-le f g)
     (omega (arith, front_place o d 76 70 q.tree_type budget front f, g.place, long)) h hz
 
 -- `fill_leaf` asks this of its records' place.

@@ -5,7 +5,7 @@ use lib.Bits.{bit_or, bit_xor, or_shifted}
 use lib.Pow.{mod-pow-add, shl-shr}
 use lib.ListN.{get_or-eq_default}
 use lib.Seq.{drop-length}
-use borrow.Author.Rules.{zero≤}
+use Rattle.std.proofs.Common.{zero-le}
 use Rattle.checksum.specs.declared.Words.{Words}
 use Rattle.checksum.specs.Lookup3.{plus, minus, rotated, mix_line_of, final_line_of, started, word, block_added, ended, blocks, lookup3, final_mixed, mixed}
 
@@ -140,7 +140,7 @@ Left d w i = (i ≤ length d) × (blocks (length d - i / 12) w (drop i d) ≡ lo
 
 pub left_start : (d : List ℕ) (w : Words) → w ≡ started (length d) → Left d w 0
 unfolding lookup3
-left_start d w e = (zero≤, rw (e, sub-zero))
+left_start d w e = (zero-le, rw (e, sub-zero))
 
 pub left_turn : (d : List ℕ) (w v u : Words) (i : ℕ) → Left d w i → 12 < length d - i → v ≡ block_added w (drop i d) → u ≡ mixed v
     → Left d u (i + 12)

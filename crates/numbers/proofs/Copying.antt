@@ -12,7 +12,7 @@ use lib.Dec.{leb}
 use lib.ListN.{length, get_or, set, take, drop, replicate, length-set}
 use lib.Seq.{take-suc, take_all, length-take-le, drop-drop, drop-length}
 use borrow.Author.Fill.{fill_none, fill_more}
-use borrow.Author.Rules.{zero≤}
+use Rattle.std.proofs.Common.{zero-le}
 use borrow.Author.Tests.{leb-true, leb-false}
 use borrow.Rule.Slice.PartMut.{put_mid}
 use Rattle.numbers.specs.Numbers.{part, num, saturated}
@@ -48,7 +48,7 @@ Copied to₀ from to i = (i ≤ length to₀) × (length to₀ ≡ length from) 
 
 module _ (to₀ from : List ℕ) (same : length to₀ ≡ length from) where
   pub copied-start : Copied to₀ from to₀ 0
-  copied-start = (zero≤, same, refl, rw stored_nil)
+  copied-start = (zero-le, same, refl, rw stored_nil)
 
   pub copied-turn : (to : List ℕ) (i : ℕ) → Copied to₀ from to i → i < length to₀ → Copied to₀ from (set to i (get_or from i 0)) (i + 1)
   copied-turn to i inv h =
@@ -66,7 +66,7 @@ Cleared to₀ to i = (i ≤ length to₀) × (length to ≡ length to₀) × (to
 
 module _ (to₀ : List ℕ) where
   pub cleared_start : Cleared to₀ to₀ 0
-  cleared_start = (zero≤, refl, fill_none to₀ 0)
+  cleared_start = (zero-le, refl, fill_none to₀ 0)
 
   module _ (to : List ℕ) (i : ℕ) (inv : Cleared to₀ to i) where
     pub cleared_turn : i < length to₀ → Cleared to₀ (set to i 0) (i + 1)

@@ -5,7 +5,7 @@ use mathlib.Core.List.{List, [], ◌∷◌, ◌++◌, append_assoc, append-nil}
 use Prim.Native.Nat.{ℕ, zero, suc, ◌+◌, ◌-◌, ◌≤◌, ◌<◌}
 use native.Mathlib.Nat.{zero-add, add-zero}
 use native.Mathlib.Omega.{arith}
-use borrow.Author.Rules.{zero≤}
+use Rattle.std.proofs.Common.{zero-le}
 use lib.ListN.{length, take, drop, length-append, take-append-drop}
 use lib.Seq.{take_all, take-append-le, take-append-add, take-append_seam, drop-append_seam, take-add}
 use Rattle.numbers.specs.Places.{stored, over, joined, filled_to}
@@ -99,4 +99,4 @@ module _ (fields : List (List ℕ)) (o : List ℕ) where
     pub filled_next : filled_to (k + 1) fields o ≡ stored (filled_to k fields o) done (joined (take 1 (drop k fields)))
     filled_next =
         rw (filled_stored, filled_stored, take-add, joined_append)
-        (sym (rw zero-add at (stored_append o 0 (joined (take k fields)) zero≤ (joined (take 1 (drop k fields))))))
+        (sym (rw zero-add at (stored_append o 0 (joined (take k fields)) zero-le (joined (take 1 (drop k fields))))))

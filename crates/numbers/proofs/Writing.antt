@@ -7,7 +7,7 @@ use native.Mathlib.Numerals.{add-one}
 use native.Mathlib.Omega.{arith}
 use lib.Dec.{leb}
 use lib.ListN.{length, set, length-set}
-use borrow.Author.Rules.{zero≤}
+use Rattle.std.proofs.Common.{zero-le}
 use borrow.Author.Tests.{le-leb, lt-leb}
 use Rattle.numbers.specs.Numbers.{pick, le}
 use Rattle.numbers.specs.Places.{stored, put}
@@ -34,7 +34,7 @@ module _ (o : List ℕ) (at x w : ℕ) where
 
   pub written_start : Written o at x w o x 0
   unfolding le
-  written_start = (zero≤, refl, rw stored_nil, rw div-one)
+  written_start = (zero-le, refl, rw stored_nil, rw div-one)
 
   module _ (d : List ℕ) (rest i : ℕ) (inv : Written o at x w d rest i) (fits : at + w ≤ length o) where
     pub written_turn : i < w → Written o at x w (set d (at + i) (rest % 256)) (rest / 256) (i + 1)
