@@ -182,11 +182,3 @@ pub fn jenkins_lookup3(data: &[u8]) -> u32
     }
     finish(w, data, i)
 }
-
-// The same for C and Rust.
-#[unsafe(no_mangle)]
-pub extern "C" fn checksum_jenkins_lookup3(data: &[u8]) -> u32
-    ensures { result ≡ lookup3 «data».now }
-{
-    jenkins_lookup3(data)
-}
