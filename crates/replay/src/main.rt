@@ -4,6 +4,9 @@
 // result: the answers due stand in the code alone, so a contract could only repeat it. `print` and `main` write, of which no contract speaks.
 
 #![tactic(auto)]
+
+use std::io;
+
 mod checksum_answers;
 mod checksum_replay;
 mod collect_answers;
@@ -25,17 +28,18 @@ mod record_write_replay;
 mod rows;
 mod tally;
 
-fn main() {
-    checksum_replay::published().print(b"checksum, published values");
-    checksum_replay::stored().print(b"checksum, stored answers");
-    plan_replay::stored().print(b"plan, stored answers");
-    image_replay::stored().print(b"image, stored answers");
-    image_replay::limits().print(b"image, limits");
-    header_replay::stored().print(b"header, stored answers");
-    collect_replay::stored().print(b"collect, stored answers");
-    collect_replay::ends().print(b"collect, ends of a leaf");
-    find_replay::stored().print(b"find, stored answers");
-    look_replay::stored().print(b"look, stored answers");
-    record_read_replay::stored().print(b"record read, stored answers");
-    record_write_replay::stored().print(b"record write, stored answers");
+fn main(rt: HostRuntime) -> io::Result<()> {
+    checksum_replay::published().print(rt, "checksum, published values")?;
+    checksum_replay::stored().print(rt, "checksum, stored answers")?;
+    plan_replay::stored().print(rt, "plan, stored answers")?;
+    image_replay::stored().print(rt, "image, stored answers")?;
+    image_replay::limits().print(rt, "image, limits")?;
+    header_replay::stored().print(rt, "header, stored answers")?;
+    collect_replay::stored().print(rt, "collect, stored answers")?;
+    collect_replay::ends().print(rt, "collect, ends of a leaf")?;
+    find_replay::stored().print(rt, "find, stored answers")?;
+    look_replay::stored().print(rt, "look, stored answers")?;
+    record_read_replay::stored().print(rt, "record read, stored answers")?;
+    record_write_replay::stored().print(rt, "record write, stored answers")?;
+    Ok(())
 }

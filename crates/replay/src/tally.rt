@@ -1,8 +1,10 @@
 // The count of a list's answers: how many agreed and how many differed, and the line that says so.
+
 ghost use Rattle.std.specs.Prelude.{◌≡◌, ◌+◌, ◌<◌};
+
 ghost use Rattle.replay.specs.Counted.{counted};
 
-use libc::STDOUT_FILENO;
+use std::io;
 
 #[derive(Clone, Copy)]
 pub(crate) struct Tally {
@@ -39,12 +41,7 @@ impl Tally {
     }
 
     // Writes the list's name and the two counts, as a line.
-    pub(crate) fn print(self, name: &[u8]) {
-        io::write_all(STDOUT_FILENO, name);
-        io::write_all(STDOUT_FILENO, b": ");
-        io::print_decimal(STDOUT_FILENO, self.agreed);
-        io::write_all(STDOUT_FILENO, b" agreed, ");
-        io::print_decimal(STDOUT_FILENO, self.differed);
-        io::write_all(STDOUT_FILENO, b" differed\n");
+    pub(crate) fn print(self, rt: HostRuntime, name: &str) -> io::Result<()> {
+        println!(rt; "{name}: {} agreed, {} differed", self.agreed, self.differed)
     }
 }
