@@ -8,7 +8,7 @@ SHELL := bash
 .ONESHELL:
 .PHONY: test files run lib install bench soak
 
-# The crates that have C functions, each with its header in include/.
+# The names of the archives of C functions, each with its header in include/.
 EXPORTED := checksum btree_v2
 HEADERS := include/checksum.h include/btree_v2.h
 ARCHIVES := $(EXPORTED:%=target/staticlib/lib%.a)
@@ -17,9 +17,8 @@ CARGO := cd rust && cargo
 
 # The last line of the test is the verdict of rt ci, and stands there only where all passed.
 test:
-	@rt fmt --check
-	scripts/prove ci
-	scripts/prove archives $(EXPORTED)
+	@scripts/prove ci
+	scripts/prove archives
 	($(CARGO) test --release --offline)
 	$(MAKE) --no-print-directory files
 	tests/c.sh
@@ -103,4 +102,4 @@ soak: $(ARCHIVES) lib
 	fuzz/run.sh $$seconds $(CORES)
 
 $(ARCHIVES) &: crates.txt $(shell find crates -type f 2>/dev/null)
-	@scripts/prove archives $(EXPORTED)
+	@scripts/prove archives

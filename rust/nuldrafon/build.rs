@@ -1,4 +1,4 @@
-//! Links the static libraries that `rt staticlib NAME` wrote to target/staticlib.
+//! Links the static libraries that `scripts/prove archives` wrote to target/staticlib.
 
 use std::env;
 use std::path::Path;
@@ -20,7 +20,7 @@ fn main() {
         if !archive.is_file() {
             let missing = archive.display();
             let root = root.display();
-            println!("cargo::error={missing} is missing: run `rt staticlib {name}` in {root}");
+            println!("cargo::error={missing} is missing: run `scripts/prove archives` in {root}");
         }
         println!("cargo::rustc-link-lib=static={name}");
     }
