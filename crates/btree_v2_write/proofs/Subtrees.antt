@@ -257,16 +257,16 @@ internal_node_at k b x large small w t j r =
     record { kept = k; base = b; extra = x; large = large; small = small; count_size = w; total_size = t; first_node = j; first_record = r }
 
 -- Before the loop: what is distributed, and the first child.
-module _ (q : Request) (cs : ℕ) (most totals recs : List ℕ) (depth n j r k b x : ℕ) (o : List ℕ)
-    (given : Ready q cs most totals (length recs) (length o) depth n j r) (pos : depth ≡ 0 → ⊥) (kept : k ≡ taken (get_or most (depth - 1) 0) n)
+module _ {q : Request} {cs : ℕ} {most totals : List ℕ} {R I depth n j r k b x : ℕ}
+    (given : Ready q cs most totals R I depth n j r) (pos : depth ≡ 0 → ⊥) (kept : k ≡ taken (get_or most (depth - 1) 0) n)
     (base : b ≡ share (get_or most (depth - 1) 0) n) (more : x ≡ extra (get_or most (depth - 1) 0) n) where
-  pub now_distributed : Distribution q cs most totals (length recs) (length o) depth n j r k b x
+  pub now_distributed : Distribution q cs most totals R I depth n j r k b x
   now_distributed = record { given = given; pos = pos; kept = kept; base = base; extra = more }
 
   pub share_few : b < 2 ^ 32
   share_few = base_few now_distributed
 
-  pub first_asked : (m : ℕ) → m ≡ pick (ltb 0 x) (b + 1) b → Ready q cs most totals (length recs) (length o) (depth - 1) m j r
+  pub first_asked : (m : ℕ) → m ≡ pick (ltb 0 x) (b + 1) b → Ready q cs most totals R I (depth - 1) m j r
   first_asked m e = first_ready now_distributed e
 
 -- A number among those of the subtree's nodes, or the one after them; a record's place among its records, or the one after them.
