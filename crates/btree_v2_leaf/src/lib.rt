@@ -41,6 +41,7 @@ pub fn check_leaf_of_type(
 }
 
 // The tests after those of the front: the records are there, the 4 bytes of the checksum are, and the checksum is right.
+#[tactic(auto, using(crate::proofs::Leaves::body_cut, crate::proofs::Leaves::body_checked, read_checks::proofs::Checks::bytes_there))]
 pub fn check_body(file: &[u8], address: u64, count: u16, record_size: u16) -> Verdict
     ensures { verdict_of result ≡ leaf_body file.now record_size address count }
 {

@@ -1,5 +1,4 @@
 -- The laws that the crate's proofs cite.
 mod Records
-mod Views
 pub mod Looking
 pub mod Bases

@@ -1,5 +1,4 @@
-// A borrowed look at a leaf's records, and one record copied out. A function that takes, makes or holds a view is a walk proved by hand;
-// the functions under it take slices and numbers.
+// A borrowed look at a leaf's records, and one record copied out. The functions under those that take, make or hold a view take slices and numbers.
 
 #![tactic(auto)]
 
@@ -10,7 +9,7 @@ ghost use Rattle.refusal.specs.Answer.{verdict_of, put_answer_of};
 use refusal::{PutAnswer, Refusal, Verdict};
 
 // Document 01's borrowed look at one leaf's bytes.
-#[derive(Drop)]
+#[derive(Clone, Copy)]
 pub struct LeafView<'a> {
     // the records, end to end
     pub records: &'a [u8],
@@ -19,7 +18,7 @@ pub struct LeafView<'a> {
 }
 
 // A view whose leaf was refused has no bytes.
-#[derive(Drop)]
+#[derive(Clone, Copy)]
 pub struct LeafAnswer<'a> {
     pub verdict: Verdict,
     pub view: LeafView<'a>,
