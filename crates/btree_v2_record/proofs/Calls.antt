@@ -68,17 +68,17 @@ module _ (t first : ℕ) (at : FirstField t first) where
     write_unknown h = refused_so 19 [] (rw (unknown h))
 
     module _ (fit : Bool) (h : first < 16) (is : fit ≡ values_fit (part (all_fields field_table) first 4) v) where
-      pub write_mismatch : not fit ≡ true → Wrote (refused 20 []) out
+      pub write_mismatch : fit ≡ false → Wrote (refused 20 []) out
       unfolding record_written
-      write_mismatch e = refused_so 20 [] (rw (known h, at.fields, ← is, not-true fit e))
+      write_mismatch e = refused_so 20 [] (rw (known h, at.fields, ← is, e))
 
-      module _ (n : ℕ) (yes : not fit ≡ false) (size : n ≡ record_length (part (all_fields field_table) first 4)) where
+      module _ (n : ℕ) (yes : fit ≡ true) (size : n ≡ record_length (part (all_fields field_table) first 4)) where
         pub write_short : length out < n → Wrote (refused 15 (length out ∷ [])) out
         unfolding record_written
-        write_short short = refused_so 15 (length out ∷ []) (rw (known h, at.fields, ← is, not-false fit yes, ← size, lt-leb n (length out) short))
+        write_short short = refused_so 15 (length out ∷ []) (rw (known h, at.fields, ← is, yes, ← size, lt-leb n (length out) short))
 
         pub write_accepted : (exit : List ℕ) → n ≤ length out → exit ≡ stored out 0 (record_bytes (part (all_fields field_table) first 4) v) → Wrote (accepted (n ∷ [])) exit
         unfolding record_written record_output
         write_accepted exit long put =
-            let answer : record_written t v out ≡ accepted (n ∷ []) = rw (known h, at.fields, ← is, not-false fit yes, ← size, le-leb n (length out) long) in
+            let answer : record_written t v out ≡ accepted (n ∷ []) = rw (known h, at.fields, ← is, yes, ← size, le-leb n (length out) long) in
             (sym answer, rw (answer, over_stored, at.fields) put)

@@ -92,11 +92,11 @@ module _ (first : ℕ) (v : List ℕ) (i : ℕ) (inv : Fitting first v i) where
     next : values_fit (four first) v ≡ (b && values_fit (left first (i + 1)) v)
     next = rw (← inv.leads, left_turn first i fits h, fit_more, ← meaning.0, ← width.0, ← is)
 
-    pub fitting_not : not b ≡ true → false ≡ values_fit (four first) v
-    fitting_not e = sym (rw (not-true b e) at next)
+    pub fitting_not : b ≡ false → false ≡ values_fit (four first) v
+    fitting_not e = sym (rw e at next)
 
-    pub fitting_turn : not b ≡ false → Fitting first v (i + 1)
-    fitting_turn e = record { few = omega arith; leads = sym (rw (not-false b e) at next) }
+    pub fitting_turn : b ≡ true → Fitting first v (i + 1)
+    fitting_turn e = record { few = omega arith; leads = sym (rw e at next) }
 
   pub fitting_end : 4 ≤ i → true ≡ values_fit (four first) v
   unfolding values_fit

@@ -6,10 +6,8 @@ use Prim.Native.Nat.{ℕ, ◌+◌, ◌^◌, ◌≤◌, ◌<◌, min}
 use native.Mathlib.Omega.{arith}
 use native.Mathlib.Nat.{min-eq_left}
 use lib.Dec.{leb}
-use lib.ListN.{length}
 use borrow.Author.Tests.{leb-true, leb-false, le-leb, lt-leb}
 use Rattle.numbers.specs.Numbers.{unle, part, num, saturated}
-use Rattle.numbers.proofs.Copying.{num_saturated}
 use Rattle.numbers.proofs.Lists.{part_part}
 use Rattle.field.specs.declared.Field.{Field}
 use Rattle.field.specs.Field.{number_field, number_at}

@@ -1,6 +1,6 @@
 -- The fields of a node, joined, are its bytes; so what is put of a node that is being filled is final, and the rest is as it was.
 use mathlib.Core.Path.{◌≡◌, refl, sym, ap}
-use mathlib.Core.List.{List, [], ◌∷◌, ◌++◌, append_assoc, append-nil}
+use mathlib.Core.List.{List, ◌∷◌, ◌++◌, append_assoc, append-nil}
 use Prim.Native.Nat.{ℕ, zero, suc, ◌+◌, ◌*◌, ◌≤◌}
 use native.Mathlib.Nat.{zero-mul, suc-mul, add_comm}
 use native.Mathlib.Omega.{arith}

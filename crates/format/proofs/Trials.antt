@@ -1,14 +1,14 @@
 -- The fields of small nodes, computed, beside the bytes due: how a leaf and two internal nodes look after some of their fields. The bytes are a
 -- second implementation's, written from the documents.
 use mathlib.Core.Path.{◌≡◌, refl}
-use mathlib.Core.List.{List, [], ◌∷◌, ◌++◌}
+use mathlib.Core.List.{List, [], ◌∷◌}
 use Prim.Native.Nat.{ℕ}
 use lib.ListN.{replicate}
 use Rattle.checksum.proofs.Promise.{computed}
 use Rattle.numbers.specs.Numbers.{le, least_from, width}
 use Rattle.numbers.specs.Places.{over, joined, filled_to}
 use Rattle.node_info.specs.Capacity.{leaf_capacity, count_width, internal_capacity, subtree_capacity, total_width, node_capacity}
-use Rattle.plan.specs.Tree.{Kids, last, more, Tree, sum_kids, between, count, size, below, nodes}
+use Rattle.plan.specs.Tree.{last, more, sum_kids, between, count, size, below, nodes}
 use Rattle.format.specs.Bytes.{address}
 use Rattle.format.specs.Fields.{front_fields, end_fields, with_end, record_fields, pointer_fields, all_pointer_fields, leaf_fields, own_fields, internal_fields}
 use Rattle.format.specs.declared.Request.{Request}

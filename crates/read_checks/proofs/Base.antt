@@ -1,8 +1,8 @@
 -- Reading behind a block: the part from the base on, a block in front and base 0, and what the verdict on a base tells.
 use mathlib.Core.Path.{◌≡◌, refl, sym, ◌∙◌}
 use mathlib.Core.Bool.{Bool, true, false}
-use mathlib.Core.List.{List, [], ◌∷◌, ◌++◌}
-use Prim.Native.Nat.{ℕ, ◌+◌, ◌-◌, ◌≤◌, ◌<◌}
+use mathlib.Core.List.{List, [], ◌++◌}
+use Prim.Native.Nat.{ℕ, ◌-◌, ◌≤◌, ◌<◌}
 use native.Mathlib.Omega.{arith}
 use lib.Dec.{leb}
 use lib.ListN.{length, drop, length-append}
@@ -10,7 +10,7 @@ use lib.Seq.{drop_at}
 use borrow.Author.Tests.{leb-true, leb-false, le-leb, lt-leb}
 use Rattle.numbers.specs.Numbers.{part}
 use Rattle.numbers.proofs.Lists.{part_rest}
-use Rattle.refusal.specs.Answer.{Answer, accepted, refused, refusal_of, or_else, verdict_of}
+use Rattle.refusal.specs.Answer.{accepted, refused, refusal_of, or_else, verdict_of}
 use Rattle.refusal.specs.declared.Refusal.{Refusal}
 use Rattle.refusal.specs.declared.Verdict.{Verdict}
 use Rattle.refusal.specs.declared.Verdict.TheVariants.{Accepted, Refused}

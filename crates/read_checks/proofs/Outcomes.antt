@@ -10,7 +10,6 @@ use lib.ListN.{drop}
 use borrow.Author.Tests.{eqb-true, eq-eqb, ne_eqb}
 use Rattle.checksum.specs.Lookup3.{lookup3}
 use Rattle.numbers.specs.Numbers.{part, num}
-use Rattle.numbers.specs.Places.{stored}
 use Rattle.numbers.proofs.Lists.{part_drop}
 use Rattle.refusal.specs.Answer.{Answer, refused}
 use Rattle.read_checks.specs.Tests.{same, checksum_test}

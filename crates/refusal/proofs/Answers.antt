@@ -1,5 +1,5 @@
 -- Laws of an answer as numbers. (`cc` knows that `accepted` and `refused` differ and give back what they hold.)
-use mathlib.Core.Path.{◌≡◌, refl, sym, ◌∙◌}
+use mathlib.Core.Path.{◌≡◌, refl, sym}
 use Prim.Native.Nat.{◌-◌, ℕ, suc, ◌+◌, ◌≤◌, ◌<◌}
 use lib.Dec.{lit<, lit≤}
 use Rattle.refusal.specs.Answer.{Answer, accepted, refused, refusal_of, verdict_of, cells}

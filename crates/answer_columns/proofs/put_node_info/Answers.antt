@@ -6,11 +6,7 @@ use Rattle.refusal.proofs.Answers.{put_is}
 use Rattle.answer_columns.proofs.put_node_info.Goals as goal
 
 pub returns-in-Accepted : goal.returns-in-Accepted
-returns-in-Accepted c =
-    table-put c.args.computed.info c.args.answer.now c.in-Accepted.is
-    c.copy_column-arg-in-Accepted-2-1.given.0 c.copy_column-arg-in-Accepted-5-1.given.0 c.put_widths-arg-in-Accepted-2-1.given.0
-    c.copy_column-arg-1.given.0.1
-    c.copy_column.ensures c.copy_column-in-Accepted.ensures c.put_widths.ensures
+returns-in-Accepted c = search table-put
 
 pub returns-in-Refused : goal.returns-in-Refused
 returns-in-Refused c = put_is (sym (ap (λ v. table_answer v c.args.computed.info) c.in-Refused.is)) c.put_refusal-arg-1.given.0.1 c.put_refusal.ensures

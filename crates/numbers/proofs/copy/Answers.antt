@@ -1,6 +1,5 @@
 -- The loop of `copy`: the first i bytes are copied.
 use Rattle.numbers.proofs.Copying.{copied-start, copied-turn, copied-end}
-use Prim.Native.Nat.{◌-◌}
 use Rattle.numbers.proofs.copy.Goals as goal
 
 pub loop-i-init : goal.loop-i-init

@@ -1,5 +1,4 @@
 -- The loop of `read_bytes`: x is the number in the bytes from i on, and fits their count.
-use Prim.Native.Nat.{◌-◌}
 use Rattle.numbers.proofs.Reading.{Read}
 use Rattle.numbers.proofs.read_bytes.Given as goal
 

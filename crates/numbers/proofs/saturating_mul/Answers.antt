@@ -1,7 +1,6 @@
 -- `saturating_mul`: small factors, or a test by a quotient whether the product fits.
 use mathlib.Core.Path.{sym}
 use Rattle.numbers.proofs.Numbers.{saturated_small, saturated_over, small_product, zero_product, product_fits, product_over}
-use borrow.Author.Tests.{leb-true}
 use Rattle.numbers.proofs.saturating_mul.Goals as goal
 
 pub overflow_mul-result : goal.overflow_mul-result

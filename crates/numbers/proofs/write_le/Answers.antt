@@ -1,5 +1,4 @@
 -- The loop of `write_le`: the lowest i bytes of x are stored, and the rest of x is left.
-use Prim.Native.Nat.{◌-◌}
 use Rattle.numbers.proofs.Writing.{no_place, no_room, written_start, written_turn, written_end}
 use native.Mathlib.Omega.{arith}
 use Rattle.numbers.proofs.write_le.Goals as goal

@@ -1,7 +1,5 @@
 -- The cycle of `count_subtree`: the depth falls; a node's counts come from its children's two numbers of records.
-use Prim.Native.Nat.{ℕ, ◌<◌}
 use native.Mathlib.Omega.{arith}
-use borrow.Author.Rules.{rules}
 use Rattle.plan.proofs.Counting.{count_leaf, split_asks, less_asks, more_asks, more_fits, parts_few, extra_less, count_one, count_two}
 use Rattle.plan.proofs.+count_subtree.Goals as goal
 

@@ -1,6 +1,5 @@
 -- The loop of `deepen` has the table of depth u, and each level below is too small and holds records.
 use Rattle.plan.proofs.Searching.{sought_start, sought_turn, sought_enough, sought_empty}
-use Prim.Native.Nat.{◌-◌}
 use Rattle.std.proofs.Common.{le-ltb}
 use Rattle.plan.proofs.deepen.Goals as goal
 

@@ -1,6 +1,5 @@
 -- The loop of `compute` has the table of depth u.
 use Rattle.node_info.proofs.Growing.{grown_start, grown_turn, grown_end, too_deep}
-use Prim.Native.Nat.{◌-◌}
 use borrow.Author.Rules.{rules}
 use native.Mathlib.Omega.{arith}
 use Rattle.node_info.proofs.NodeInfo.compute.Goals as goal
