@@ -4,7 +4,7 @@ use mathlib.Core.List.{List, [], ◌++◌}
 use Prim.Native.Nat.{ℕ, ◌-◌, ◌≤◌, ◌<◌}
 use lib.ListN.{length, drop}
 use Rattle.numbers.specs.Numbers.{part}
-use Rattle.refusal.specs.Answer.{Answer, accepted, refused, refusal_of, verdict_of, cells}
+use Rattle.refusal.specs.Answer.{Answer, accepted, refused, verdict_of, cells}
 use Rattle.refusal.proofs.Answers.{cells_zero}
 use Rattle.refusal.specs.declared.Refusal.{Refusal}
 use Rattle.refusal.specs.declared.Verdict.{Verdict}

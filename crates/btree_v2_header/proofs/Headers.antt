@@ -2,7 +2,7 @@
 use mathlib.Core.Path.{◌≡◌}
 use mathlib.Core.Bool.{true, false}
 use mathlib.Core.List.{List, [], ◌∷◌}
-use Prim.Native.Nat.{ℕ, ◌+◌, ◌*◌, ◌^◌, ◌≤◌, ◌<◌, min}
+use Prim.Native.Nat.{ℕ, ◌+◌, ◌*◌, ◌^◌, ◌≤◌, ◌<◌}
 use native.Mathlib.Omega.{arith}
 use lib.ListN.{length, get_or}
 use mir.Syntax.{w64}
@@ -10,12 +10,12 @@ use mir.Val.{Fits}
 use borrow.Author.Tests.{le-leb, ne_eqb}
 use Rattle.numbers.specs.Numbers.{part, num, unle, field_size}
 use Rattle.numbers.proofs.Lists.{part_cons}
-use Rattle.numbers.proofs.Numbers.{num_add, field_size_le, field_size_4, field_size_8}
+use Rattle.numbers.proofs.Numbers.{num_add, field_size_4, field_size_8}
 use Rattle.refusal.specs.declared.Refusal.{Refusal}
 use Rattle.refusal.specs.Answer.{Answer, accepted, refused, refusal_of, or_else, verdict_of}
 use Rattle.format.specs.Bytes.{header_signature, header_size}
 use Rattle.read_checks.specs.Tests.{needs, same, checksum_test}
-use Rattle.btree_v2_header.specs.Header.{header_figures, header_at, with_base, carrying, parsed}
+use Rattle.btree_v2_header.specs.Header.{header_figures, header_at, with_base, parsed}
 use Rattle.btree_v2_header.specs.declared.BTreeV2Header.{BTreeV2Header}
 use Rattle.btree_v2_header.specs.declared.HeaderAnswer.TheVariants as header
 use Rattle.refusal.specs.declared.Refusal.TheVariants.{InvalidBTreeV2Signature, InvalidBTreeV2Version, InvalidOffsetSize, InvalidLengthSize}

@@ -1,11 +1,10 @@
 -- The cycle of node step and child step, `collect_node` and `collect_children`: depth and children left make one falling number.
 -- What the functions that the child step calls ask and tell.
-use Prim.Native.Nat.{ℕ, ◌<◌}
 use native.Mathlib.Omega.{arith}
 use borrow.Author.Rules.{rules}
 use Rattle.btree_v2_collect.proofs.Nodes.{node_there, none_after}
 use Rattle.btree_v2_collect.proofs.Steps.{node_leaf, node_stops, node_reads, internal_within, readable_under, walked_accepted}
-use Rattle.btree_v2_collect.proofs.Steps.{falling, child_stops, child_tested, first_falls, first_asked, first_stops, record_stops, second_falls, second_asked, second_reads}
+use Rattle.btree_v2_collect.proofs.Steps.{child_stops, child_tested, first_falls, first_asked, first_stops, record_stops, second_falls, second_asked, second_reads}
 use Rattle.btree_v2_collect.proofs.collect.+collect_children_collect_node.Goals as goal
 
 -- collect_children
