@@ -1,6 +1,5 @@
 -- The loop of `jenkins_lookup3`: what is left to do from i on gives the checksum of the whole.
 use Rattle.checksum.proofs.Laws.{left_start, left_turn, left_end}
-use Rattle.std.proofs.Common.{◌-◌}
 use Rattle.checksum.proofs.jenkins_lookup3.Goals as goal
 
 pub loop-i-init : goal.loop-i-init
