@@ -29,7 +29,7 @@ fn leaves(list: &[u64; 972], row: usize, file: &[u8], output: &mut [u8], due: &[
     if !rows::stand_at(list, at + 11, &found) {
         return false;
     }
-    output == due
+    &*output == due
 }
 
 // The same for the stored bytes: those from `at` to `middle` are the file, those from there to `end` are due in the output.
@@ -94,7 +94,7 @@ fn leaf(file: &[u8], due: [u64; 7], record: &[u8]) -> bool {
     if !rows::stand_at(&due, 0, &found) {
         return false;
     }
-    &output == record
+    output.as_slice() == record
 }
 
 // A leaf whose file ends 3 bytes after its records ends early; with a byte more, its checksum differs.

@@ -68,10 +68,10 @@ fn leaves(
     if !rows::stand_at(list, 14 * row + 9, &numbers) {
         return false;
     }
-    if header != header_due {
+    if &*header != header_due {
         return false;
     }
-    image == image_due
+    &*image == image_due
 }
 
 // The same for the stored bytes: those from `at` to `middle` are due in the header buffer, those from there to `end` in the image buffer.

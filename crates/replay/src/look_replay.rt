@@ -26,7 +26,7 @@ fn leaves(list: &[u64; 400], row: usize, file: &[u8], output: &mut [u8], due: &[
     if !rows::stand_at(list, at + 7, &found) {
         return false;
     }
-    output == due
+    &*output == due
 }
 
 // The same for the stored bytes: those from `at` to `middle` are the file, those from there to `end` are due in the output.

@@ -23,7 +23,7 @@ fn leaves(list: &[u64; 360], row: usize, output: &mut [u8], due: &[u8]) -> bool
     if !rows::stand_at(list, at + 6, &found) {
         return false;
     }
-    output == due
+    &*output == due
 }
 
 // The same for the stored bytes: those from `at` to `end` are due in the output.

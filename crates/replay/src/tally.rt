@@ -1,7 +1,6 @@
 // The count of a list's answers: how many agreed and how many differed, and the line that says so.
 
 ghost use Rattle.std.specs.Prelude.{◌≡◌, ◌+◌, ◌<◌};
-
 ghost use Rattle.replay.specs.Counted.{counted};
 
 use std::io;
@@ -42,6 +41,9 @@ impl Tally {
 
     // Writes the list's name and the two counts, as a line.
     pub(crate) fn print(self, rt: HostRuntime, name: &str) -> io::Result<()> {
-        println!(rt; "{name}: {} agreed, {} differed", self.agreed, self.differed)
+        println!(rt;
+            "{name}: {} agreed, {} differed",
+            self.agreed, self.differed
+        )
     }
 }

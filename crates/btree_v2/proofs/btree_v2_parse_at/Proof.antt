@@ -1,9 +1,0 @@
--- `btree_v2_parse_at`: nine places.
-use mathlib.Core.Path.{refl}
-use Rattle.refusal.proofs.Answers.{put_is}
-use borrow.Author.Rules.{rules}
-use Rattle.btree_v2.proofs.btree_v2_parse_at.Statement.{statement}
-use Rattle.btree_v2.proofs.btree_v2_parse_at.Tie as tie
-
-pub btree_v2_parse_at_spec : {M : Type 1} → statement M
-btree_v2_parse_at_spec = tie.close (tie.spec (λ c κs. search rules) (λ c. put_is refl c.before.parse-into-arg.given.0.1 c.parse-into.ensures))
