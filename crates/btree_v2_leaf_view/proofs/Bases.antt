@@ -3,7 +3,7 @@ use mathlib.Core.Path.{◌≡◌}
 use mathlib.Core.List.{List, [], ◌++◌}
 use Prim.Native.Nat.{ℕ, ◌<◌}
 use lib.ListN.{length}
-use Rattle.refusal.specs.Answer.{Answer, refused}
+use Rattle.refusal.specs.Answer.{refused}
 use Rattle.read_checks.proofs.Base.{on_part_beyond, on_part_whole, on_part_behind}
 use Rattle.btree_v2_leaf_view.specs.Look.{look_test, look_bytes, record_answer, record_exit, look_test_at, look_bytes_at, record_answer_at, record_exit_at}
 

@@ -25,6 +25,7 @@ pub struct LeafAnswer<'a> {
 }
 
 // The tests of a look in a part of a file: a record has bytes, and the leaf's own.
+#[tactic(auto, using(crate::proofs::Records::look_no_bytes, crate::proofs::Records::look_tested))]
 fn check_part(part: &[u8], address: u64, count: u16, record_size: u16) -> Verdict
     ensures { verdict_of result ≡ look_test part.now record_size address count }
 {
@@ -65,6 +66,7 @@ fn records_of<'a>(
 }
 
 // Record i of `count` records that stand end to end; empty where i is not below the count.
+#[tactic(auto, using(crate::proofs::Records::record_none, crate::proofs::Records::record_part))]
 fn record_of<'a>(records: &'a [u8], record_size: u16, count: u16, i: u64) -> &'a [u8]
     ensures { result.now ≡ record_seen records.now record_size count i }
 {

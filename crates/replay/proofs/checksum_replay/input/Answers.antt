@@ -7,10 +7,8 @@ use native.Mathlib.Numerals.{add-one}
 use native.Mathlib.Omega.{arith}
 use lib.ListN.{length, take, set, length-set}
 use lib.Seq.{take-suc-set}
-use borrow.Author.Rules.{rules}
 use Rattle.replay.specs.Inputs.{byte_of, bytes_of}
-use Rattle.replay.proofs.checksum_replay.input.Statement.{statement}
-use Rattle.replay.proofs.checksum_replay.input.Tie as tie
+use Rattle.replay.proofs.checksum_replay.input.Goals as goal
 
 abbrev Filled : ℕ → List ℕ → ℕ → Type 0
 Filled n bytes i = (i ≤ n) × (60 ≡ length bytes) × (take i bytes ≡ bytes_of n i)
@@ -23,19 +21,10 @@ filled_more n i b bytes h (_, l, e) more at =
 filled_all : (n i : ℕ) (bytes : List ℕ) → Filled n bytes i → n ≤ i → take n bytes ≡ bytes_of n n
 filled_all n i bytes (below, _, e) above = rw (le_antisymm below above) at e
 
-abbrev invariant_loop : tie.invariant_loop
-invariant_loop n bytes₀ i₀ bytes i = Filled n bytes i
-
-abbrev decreases_loop : tie.decreases_loop
-decreases_loop n bytes₀ i₀ bytes i = n - i
-
-pub input_spec : {M : Type 1} → statement M
+pub loop-i-preserved : goal.loop-i-preserved
 unfolding bytes_of
-input_spec =
-    tie.close
-    (tie.spec
-    invariant_loop
-    decreases_loop
-    (λ c. search rules) (λ c κs. search rules) (λ c. search rules) (λ c. search rules) (λ c. search rules)
-    (λ c. search filled_more)
-    (λ c. search filled_all))
+loop-i-preserved c = search filled_more
+
+pub returns : goal.returns
+unfolding bytes_of
+returns c = search filled_all
