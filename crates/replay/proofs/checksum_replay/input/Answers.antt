@@ -1,25 +1,12 @@
 -- The loop of `input`: the first i bytes are the input's.
-use mathlib.Core.Path.{◌≡◌}
-use mathlib.Core.List.{List}
-use Prim.Native.Nat.{ℕ, ◌+◌, ◌-◌, ◌≤◌, ◌<◌}
-use native.Mathlib.Nat.{le_antisymm}
-use native.Mathlib.Numerals.{add-one}
-use native.Mathlib.Omega.{arith}
-use lib.ListN.{length, take, set, length-set}
-use lib.Seq.{take-suc-set}
-use Rattle.replay.specs.Inputs.{byte_of, bytes_of}
+use Rattle.std.proofs.Common.{rules}
+use Rattle.replay.specs.Inputs.{bytes_of}
+use Rattle.replay.proofs.Filling.{filled_more, filled_all}
 use Rattle.replay.proofs.checksum_replay.input.Goals as goal
 
-abbrev Filled : ℕ → List ℕ → ℕ → Type 0
-Filled n bytes i = (i ≤ n) × (60 ≡ length bytes) × (take i bytes ≡ bytes_of n i)
-
-filled_more : (n i b : ℕ) (bytes : List ℕ) → n ≤ 60 → Filled n bytes i → i < n → b ≡ byte_of n i → Filled n (set bytes i b) (i + 1)
+pub loop-i-init : goal.loop-i-init
 unfolding bytes_of
-filled_more n i b bytes h (_, l, e) more at =
-    (omega arith, simp length-set l, rw (add-one, take-suc-set bytes i b (omega arith), e, at))
-
-filled_all : (n i : ℕ) (bytes : List ℕ) → Filled n bytes i → n ≤ i → take n bytes ≡ bytes_of n n
-filled_all n i bytes (below, _, e) above = rw (le_antisymm below above) at e
+loop-i-init c = search rules
 
 pub loop-i-preserved : goal.loop-i-preserved
 unfolding bytes_of

@@ -1,5 +1,6 @@
 -- The loop of `input`: the first i bytes are the input's.
 use Prim.Native.Nat.{◌-◌}
+use Rattle.replay.proofs.Filling.{Filled}
 use Rattle.replay.proofs.checksum_replay.input.Given as goal
 
 abbrev pub invariant-loop-i : goal.invariant-loop-i

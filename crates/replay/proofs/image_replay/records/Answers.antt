@@ -1,5 +1,4 @@
 -- The loop of `records` keeps the array's length.
-use Prim.Native.Nat.{◌-◌}
 use lib.ListN.{length-set}
 use borrow.Author.Rules.{rules}
 use Rattle.replay.proofs.image_replay.records.Goals as goal

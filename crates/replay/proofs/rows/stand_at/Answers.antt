@@ -1,10 +1,7 @@
 -- The loop of `stand_at`: the first i numbers stand there.
-use Prim.Native.Nat.{◌-◌}
 use native.Mathlib.Omega.{arith}
 use borrow.Author.Count.{below_more}
 use borrow.Author.Rules.{rules}
-use Rattle.replay.proofs.rows.stand_at.Reads as reads
-use Rattle.replay.proofs.rows.stand_at.Lts as lts
 use Rattle.replay.proofs.rows.stand_at.Goals as goal
 
 pub returns-then-list-at : goal.returns-then-list-at

@@ -2,8 +2,6 @@
 use mathlib.Core.Path.{◌≡◌}
 use Prim.Native.Nat.{ℕ, ◌+◌, ◌-◌, ◌≤◌, ◌<◌}
 use lib.ListN.{length, get_or}
-use Rattle.replay.proofs.rows.stand_at.Reads as reads
-use Rattle.replay.proofs.rows.stand_at.Lts as lts
 use Rattle.replay.proofs.rows.stand_at.Given as goal
 
 abbrev pub invariant-loop-i : goal.invariant-loop-i
