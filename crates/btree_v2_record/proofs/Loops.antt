@@ -1,6 +1,6 @@
 -- The loops over the four fields of a type. What each says of the fields that are left leads to what it says of all four.
 use mathlib.Core.Path.{◌≡◌, refl, sym, ap, ◌∙◌}
-use mathlib.Core.Bool.{Bool, true, false, not, ◌&&◌}
+use mathlib.Core.Bool.{Bool, true, false, ◌&&◌}
 use mathlib.Core.List.{List, [], ◌∷◌, ◌++◌}
 use Prim.Native.Nat.{ℕ, zero, suc, ◌+◌, ◌-◌, ◌*◌, ◌/◌, ◌^◌, ◌≤◌, ◌<◌}
 use native.Mathlib.Nat.{add-zero, add_assoc, zero-add, div-eq_of_lt, div-lt_iff_lt-mul}
@@ -10,7 +10,7 @@ use lib.ListN.{length, get_or, set, take, drop, replicate, length-set}
 use lib.Pow.{pow_pos}
 use lib.Seq.{drop-drop}
 use Rattle.std.proofs.Common.{zero-le}
-use borrow.Author.Tests.{le-leb, lt-ltb, eq-eqb, ne_eqb, ltb-true, ltb-false, not-true, not-false}
+use borrow.Author.Tests.{le-leb, lt-ltb, eq-eqb, ne_eqb, ltb-true, ltb-false}
 use Rattle.numbers.specs.Numbers.{pick, le, unle, part, num}
 use Rattle.numbers.specs.Places.{stored, put}
 use Rattle.numbers.proofs.Numbers.{le_length, pow_256}

@@ -1,6 +1,5 @@
 -- The loop of `clear`: the first i numbers are zeros.
 use Rattle.numbers.proofs.Copying.{cleared_start, cleared_turn, cleared_end}
-use Prim.Native.Nat.{◌-◌}
 use Rattle.answer_columns.proofs.clear.Goals as goal
 
 pub loop-at-init : goal.loop-at-init

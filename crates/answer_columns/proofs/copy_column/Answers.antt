@@ -1,5 +1,4 @@
 -- The loop of `copy_column`: the first i numbers of the column are at their place.
-use Prim.Native.Nat.{◌-◌}
 use Rattle.answer_columns.proofs.Table.{copied-start, copied-turn, copied-end}
 use Rattle.answer_columns.proofs.copy_column.Goals as goal
 

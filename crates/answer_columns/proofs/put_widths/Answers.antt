@@ -1,5 +1,4 @@
 -- The loop of `put_widths`: the first i numbers of the column are at their place.
-use Prim.Native.Nat.{◌-◌}
 use Rattle.answer_columns.proofs.Table.{copied-start, copied-turn, copied-end}
 use native.Mathlib.Omega.{arith}
 use Rattle.answer_columns.proofs.put_widths.Goals as goal

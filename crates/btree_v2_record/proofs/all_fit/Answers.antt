@@ -1,5 +1,4 @@
 -- The loop of `all_fit`: the values of i fields fit.
-use Prim.Native.Nat.{◌-◌}
 use Rattle.btree_v2_record.proofs.Loops.{fitting_start, fitting_not, fitting_turn, fitting_end}
 use Rattle.btree_v2_record.proofs.all_fit.Goals as goal
 

@@ -1,5 +1,4 @@
 -- The loop of `length_of`: the widths of i fields are summed.
-use Prim.Native.Nat.{◌-◌}
 use Rattle.btree_v2_record.proofs.Loops.{summed_start, summed_turn, summed_end}
 use Rattle.btree_v2_record.proofs.length_of.Goals as goal
 

@@ -1,5 +1,4 @@
 -- The loop of `put_fields`: i fields are put, and the place is where they end.
-use Prim.Native.Nat.{◌-◌}
 use Rattle.btree_v2_record.proofs.Loops.{putting_start, putting_turn, putting_end}
 use Rattle.btree_v2_record.proofs.put_fields.Goals as goal
 

@@ -1,5 +1,4 @@
 -- The loop of `read_fields`: the numbers of i fields stand at their places.
-use Prim.Native.Nat.{◌-◌}
 use Rattle.btree_v2_record.proofs.Loops.{filling_start, filling_room, filling_turn, filling_end}
 use borrow.Author.Rules.{rules}
 use Rattle.btree_v2_record.proofs.read_fields.Goals as goal
