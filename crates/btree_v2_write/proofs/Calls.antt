@@ -27,7 +27,7 @@ use Rattle.plan.specs.Planned.{planned, plan_figures, plan_answer_of}
 use Rattle.plan.proofs.Accepted.{planned_none, planned_size}
 use Rattle.plan.proofs.Checks.{Plannable, accepted_plannable}
 use Rattle.plan.proofs.Depths.{depth_le, depth_small}
-use Rattle.format.specs.Bytes.{address, header_bytes, image}
+use Rattle.format.specs.Bytes.{address, header_bytes}
 use Rattle.format.specs.declared.Request.{Request}
 use Rattle.format.specs.Request.{depth_of, nodes_of, image_of, root_of, root_records_of, header_from}
 use Rattle.write_checks.specs.Writing.{written, header_exit, image_exit}

@@ -1,6 +1,5 @@
 -- Fields put one after another, within a budget: puts compose, and a node's end comes after its fields.
-use mathlib.Core.Path.{◌≡◌, refl, sym, ◌∙◌, ap}
-use mathlib.Core.Logic.{⊎_elim}
+use mathlib.Core.Path.{◌≡◌}
 use mathlib.Core.List.{List, [], ◌∷◌, ◌++◌}
 use Prim.Native.Nat.{ℕ, zero, suc, ◌+◌, ◌-◌, ◌*◌, ◌^◌, ◌≤◌, ◌<◌, min}
 use native.Mathlib.Nat.{add-zero, zero-add, sub-zero, mul-le-mul_right, zero-min, min-zero, suc-min-suc}
@@ -10,10 +9,10 @@ use mir.Syntax.{w64}
 use lib.ListN.{length, take, length-append}
 use lib.Seq.{take-nil, take_all}
 use Rattle.numbers.specs.Numbers.{le, part}
-use Rattle.numbers.specs.Places.{stored, put, joined, filled_to}
+use Rattle.numbers.specs.Places.{put, joined, filled_to}
 use Rattle.numbers.proofs.Lists.{stored_nil, length_part, put_fits}
 use Rattle.numbers.proofs.Copying.{part_put}
-use Rattle.numbers.proofs.Numbers.{le_length, lt_or_le}
+use Rattle.numbers.proofs.Numbers.{le_length}
 use Rattle.numbers.proofs.Filling.{joined_append, joined_one, filled_turn, length_filled, filled_stored}
 use Rattle.format.specs.Fields.{front_fields, with_end, record_fields}
 use Rattle.format.proofs.Fields.{records_joined, records_many}

@@ -1,6 +1,5 @@
 -- The loop of `clear`: the first i bytes are 0.
 use Rattle.numbers.proofs.Copying.{cleared_turn, cleared_end}
-use Prim.Native.Nat.{◌-◌}
 use Rattle.btree_v2_stamp.proofs.clear.Goals as goal
 
 pub loop-i-preserved : goal.loop-i-preserved

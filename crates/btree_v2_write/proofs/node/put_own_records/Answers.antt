@@ -1,6 +1,5 @@
 -- The loop of `put_own_records`: what fills the rest, from the progress reached on, fills the whole.
 use Rattle.btree_v2_write.proofs.Internal.{records_start, record_fits, record_next_fits, record_place_lem, record_there, records_turn, records_end_lem}
-use Prim.Native.Nat.{◌-◌}
 use Rattle.btree_v2_write.proofs.node.put_own_records.Goals as goal
 
 pub loop-i-init : goal.loop-i-init

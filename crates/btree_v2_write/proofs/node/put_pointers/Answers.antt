@@ -1,6 +1,5 @@
 -- The loop of `put_pointers`: what fills the rest, from the progress reached on, fills the whole.
 use Rattle.btree_v2_write.proofs.Internal.{pointers_start, pointer_fits, next_fits, turn_fits, pointers_turn, pointers_end}
-use Prim.Native.Nat.{◌-◌}
 use Rattle.btree_v2_write.proofs.node.put_pointers.Goals as goal
 
 pub loop-i-init : goal.loop-i-init

@@ -1,12 +1,9 @@
 -- The cycle of `write_subtree`: the depth falls. The loop over the children from child 1 on: what is left to store, stored at the node reached,
 -- gives all of it.
-use Prim.Native.Nat.{ℕ, ◌<◌, ◌+◌, ◌-◌}
-use Rattle.btree_v2_write.proofs.subtree.+write_subtree.{statement}
 use native.Mathlib.Omega.{arith}
-use lib.ListN.{length}
 use borrow.Author.Rules.{rules}
 use Rattle.btree_v2_write.proofs.Subtrees.{leaf_room, leaf_fits, leaf_done, base_few, width_small, node_fits, share_few, first_asked, now_distributed}
-use Rattle.btree_v2_write.proofs.Subtrees.{first_next_fits, first_record_fits, first_after_fits, loop_start, KidsLeft, turn_fits, kid_ready, kid_next_fits, kid_record_fits, kid_after_fits, loop_turn}
+use Rattle.btree_v2_write.proofs.Subtrees.{first_next_fits, first_record_fits, first_after_fits, loop_start, turn_fits, kid_ready, kid_next_fits, kid_record_fits, kid_after_fits, loop_turn}
 use Rattle.btree_v2_write.proofs.Subtrees.{record_is, next_is, next_least, root_fits, root_room, root_done}
 use Rattle.btree_v2_write.proofs.subtree.+write_subtree.Goals as goal
 
