@@ -1,10 +1,10 @@
 -- Finding with a base: the whole call, base 0, a block in front, a base beyond the file, and a tree in order behind a block.
-use mathlib.Core.Path.{◌≡◌, refl, sym, ◌∙◌}
+use mathlib.Core.Path.{◌≡◌}
 use mathlib.Core.List.{List, [], ◌∷◌, ◌++◌}
 use Prim.Native.Nat.{ℕ, ◌-◌, ◌≤◌, ◌<◌}
 use lib.ListN.{length, drop}
 use Rattle.numbers.specs.Numbers.{part}
-use Rattle.refusal.specs.Answer.{refused, verdict_of, cells}
+use Rattle.refusal.specs.Answer.{verdict_of, cells}
 use Rattle.refusal.specs.declared.Refusal.{Refusal}
 use Rattle.refusal.specs.declared.Verdict.{Verdict}
 use Rattle.refusal.specs.declared.Verdict.TheVariants.{Accepted, Refused}

@@ -2,7 +2,7 @@
 use mathlib.Core.Path.{◌≡◌, refl, sym, ◌∙◌, ap}
 use mathlib.Core.Logic.{⊎_elim}
 use mathlib.Core.List.{List, [], ◌∷◌, ◌++◌}
-use Prim.Native.Nat.{ℕ, ◌+◌, ◌-◌, ◌*◌, ◌≤◌, ◌<◌}
+use Prim.Native.Nat.{ℕ, ◌-◌, ◌*◌, ◌≤◌, ◌<◌}
 use native.Mathlib.Nat.{zero-mul, eq-zero-or-pos}
 use native.Mathlib.Omega.{arith}
 use lib.ListN.{length, get_or, take, drop, length-take, length-drop}
@@ -23,7 +23,7 @@ use Rattle.format.specs.Request.{depth_of, tree_of, nodes_of, root_of, root_reco
 use Rattle.write_checks.specs.Writing.{written, header_exit, image_exit}
 use Rattle.numbers.specs.Places.{over}
 use Rattle.btree_v2_collect.specs.Walk.{Counts, Run, fine, stopped, no_counts}
-use Rattle.btree_v2_header.specs.Header.{header_figures, header_at, with_base, carrying, parsed, parsed_at}
+use Rattle.btree_v2_header.specs.Header.{header_figures, header_at, with_base, carrying, parsed_at}
 use Rattle.btree_v2_header.proofs.Bases.{parsed_in_part}
 use Rattle.btree_v2_collect.proofs.Bases.{collected_in_part, collected_based}
 use Rattle.btree_v2_collect.specs.Collect.{collected, collected_at, run_cells, run_output, count_cells}

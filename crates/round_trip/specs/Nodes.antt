@@ -1,5 +1,5 @@
 -- The own records of a plan's nodes by their numbers, children first, root last. From document 01, "Planner" and "Header and node image".
-use Rattle.std.specs.Prelude.{ℕ, zero, suc, ◌+◌, List, [], ◌∷◌, ◌++◌, get_or}
+use Rattle.std.specs.Prelude.{ℕ, zero, suc, List, [], ◌∷◌, ◌++◌, get_or}
 use Rattle.plan.specs.Tree.{Kids, last, more, Tree, between}
 use Rattle.format.specs.declared.Request.{Request}
 use Rattle.format.specs.Request.{depth_of, tree_of}

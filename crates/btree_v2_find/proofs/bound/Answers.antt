@@ -1,5 +1,4 @@
 -- The loop of `bound`: the place follows the record, and no record before it bounds.
-use Prim.Native.Nat.{◌-◌}
 use Rattle.btree_v2_find.proofs.Searching.{seeking_start, first_fits, next_fits, seeking_turn, bound_none, bound_here}
 use Rattle.btree_v2_find.proofs.bound.Goals as goal
 
