@@ -101,5 +101,5 @@ soak: $(ARCHIVES) lib
 	($(CARGO) run --quiet --release --offline --package differential --bin soak $$seconds $(CORES))
 	fuzz/run.sh $$seconds $(CORES)
 
-$(ARCHIVES) &: crates.txt $(shell find crates -type f 2>/dev/null)
+$(ARCHIVES) &: crates.txt $(shell find crates -name out -prune -o -type f -print 2>/dev/null)
 	@scripts/prove archives
