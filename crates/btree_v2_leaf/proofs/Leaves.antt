@@ -10,8 +10,8 @@ use borrow.Author.Tests.{le-leb, lt-leb}
 use Rattle.refusal.specs.declared.Refusal.{Refusal}
 use Rattle.refusal.specs.Answer.{accepted, verdict_of}
 use Rattle.format.specs.Bytes.{leaf_signature, records_end}
-use Rattle.read_checks.specs.Tests.{needs, front_test, version_type_test, checksum_test}
-use Rattle.btree_v2_leaf.specs.Leaf.{leaf_body, leaf_test, checked_leaf}
+use Rattle.read_checks.specs.Tests.{needs, front_test, checksum_test}
+use Rattle.btree_v2_leaf.specs.Leaf.{leaf_body, leaf_test}
 use Rattle.btree_v2_leaf.proofs.Records as records
 use Rattle.refusal.specs.declared.Verdict.{Verdict}
 use Rattle.refusal.specs.declared.Verdict.TheVariants.{Accepted, Refused}
@@ -27,22 +27,6 @@ module _ (file : List ℕ) (k a n : ℕ) where
     pub leaf_body_lem : front ≡ Accepted → (body : Verdict) → verdict_of body ≡ leaf_body file k a n → verdict_of body ≡ leaf_test file k a n
     unfolding leaf_test
     leaf_body_lem e body rest = rw (first_accepts front _ _ code e) rest
-
-    -- `check_leaf_of_type`: between them the version and the type.
-    module _ (tree_type : ℕ) where
-      pub typed_front : (q : Refusal) → front ≡ Refused q → verdict_of front ≡ checked_leaf file tree_type k a n
-      unfolding checked_leaf
-      typed_front = first_refuses front _ _ code
-
-      module _ (begun : front ≡ Accepted) (marked : Verdict) (mark : verdict_of marked ≡ version_type_test file tree_type a) where
-        pub typed_mark : (q : Refusal) → marked ≡ Refused q → verdict_of marked ≡ checked_leaf file tree_type k a n
-        unfolding checked_leaf
-        typed_mark q e = rw (first_accepts front _ _ code begun) (first_refuses marked _ _ mark q e)
-
-        pub typed_body : marked ≡ Accepted → (body : Verdict) → verdict_of body ≡ leaf_body file k a n
-            → verdict_of body ≡ checked_leaf file tree_type k a n
-        unfolding checked_leaf
-        typed_body e body rest = rw (first_accepts front _ _ code begun, first_accepts marked _ _ mark e) rest
 
   -- `check_body`: where the records are not there.
   pub body_short : (records : Verdict) → verdict_of records ≡ needs (a + records_end k n) (length file) (accepted []) → (q : Refusal) → records ≡ Refused q

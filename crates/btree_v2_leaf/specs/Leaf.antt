@@ -1,8 +1,8 @@
--- A leaf's tests: document 01, "Collecting", and document 02, "Five" and "Six".
+-- A leaf's tests: document 01, "Collecting", and document 02, "Five".
 use Rattle.std.specs.Prelude.{ℕ, ◌+◌, List, [], length}
 use Rattle.refusal.specs.Answer.{Answer, accepted, on_accepted}
 use Rattle.format.specs.Bytes.{leaf_signature, records_end}
-use Rattle.read_checks.specs.Tests.{needs, front_test, version_type_test, checksum_test}
+use Rattle.read_checks.specs.Tests.{needs, front_test, checksum_test}
 
 -- The body of a leaf at a with n records of rs bytes: records, the 4 bytes of the checksum, the checksum.
 unfoldable pub leaf_body : List ℕ → ℕ → ℕ → ℕ → Answer
@@ -14,9 +14,3 @@ leaf_body file rs a n =
 -- Such a leaf: its front and its body.
 unfoldable pub leaf_test : List ℕ → ℕ → ℕ → ℕ → Answer
 leaf_test file rs a n = on_accepted (front_test file leaf_signature a) (leaf_body file rs a n)
-
--- The same with every check: its front, its version and type, and its body.
-unfoldable pub checked_leaf : List ℕ → ℕ → ℕ → ℕ → ℕ → Answer
-checked_leaf file tree_type rs a n =
-    on_accepted (front_test file leaf_signature a)
-    (on_accepted (version_type_test file tree_type a) (leaf_body file rs a n))

@@ -1,10 +1,10 @@
-// A leaf's tests: its front, which every node has, and its body; with every check its version and type between them.
+// A leaf's tests: its front, which every node has, and its body.
 
 #![tactic(auto)]
 
 ghost use Rattle.std.specs.Prelude.{◌≡◌};
 ghost use Rattle.refusal.specs.Answer.{verdict_of};
-ghost use Rattle.btree_v2_leaf.specs.Leaf.{leaf_body, leaf_test, checked_leaf};
+ghost use Rattle.btree_v2_leaf.specs.Leaf.{leaf_body, leaf_test};
 
 use refusal::Verdict;
 
@@ -15,27 +15,6 @@ pub fn check_leaf(file: &[u8], address: u64, count: u16, record_size: u16) -> Ve
     let front = read_checks::check_front(file, address, b'L', b'F');
     let Verdict::Accepted = front else {
         return front;
-    };
-    check_body(file, address, count, record_size)
-}
-
-// A leaf's tests with every check.
-pub fn check_leaf_of_type(
-    file: &[u8],
-    tree_type: u8,
-    address: u64,
-    count: u16,
-    record_size: u16,
-) -> Verdict
-    ensures { verdict_of result ≡ checked_leaf file.now tree_type record_size address count }
-{
-    let begun = read_checks::check_front(file, address, b'L', b'F');
-    let Verdict::Accepted = begun else {
-        return begun;
-    };
-    let marked = read_checks::check_version_and_type(file, address, tree_type);
-    let Verdict::Accepted = marked else {
-        return marked;
     };
     check_body(file, address, count, record_size)
 }

@@ -14,11 +14,10 @@ use Rattle.checksum.specs.Lookup3.{lookup3}
 use Rattle.numbers.specs.Numbers.{part, num, saturated}
 use Rattle.numbers.proofs.Lists.{part_cons}
 use Rattle.numbers.proofs.Numbers.{num_lt}
-use Rattle.numbers.proofs.Copying.{num_saturated}
 use Rattle.refusal.specs.declared.Refusal.{Refusal}
 use Rattle.refusal.specs.Answer.{Answer, accepted, refused, refusal_of, or_else, verdict_of, on_accepted}
 use Rattle.refusal.proofs.Answers.{refused_is}
-use Rattle.read_checks.specs.Tests.{needs, same, version_type_test, checksum_test}
+use Rattle.read_checks.specs.Tests.{needs, same, checksum_test}
 use Rattle.read_checks.proofs.Outcomes.{same_false, checksum_equal, checksum_differs}
 use Rattle.refusal.specs.declared.Verdict.{Verdict}
 use Rattle.refusal.specs.declared.Verdict.TheVariants.{Accepted, Refused}
@@ -127,22 +126,6 @@ module _ (l : List ℕ) (p c d : ℕ) (inside : p ≤ length l) (enough : 4 ≤ 
 
       pub signature_3 : get_or l (p + 2) 0 ≡ c → eqb (get_or l (p + 3) 0) d ≡ same (part l p 4) (66 ∷ 84 ∷ c ∷ d ∷ [])
       signature_3 e2 = rw (by_bytes, eq-eqb _ _ e0, eq-eqb _ _ e1, eq-eqb _ _ e2)
-
--- `check_version_and_type`: the two bytes after the signature, each at a place that is saturated at 2^64 - 1.
-module _ (file : List ℕ) (tree_type a x y from next : ℕ) (small : length file < 2 ^ 64) (version : x ≡ num file from (min 1 8))
-    (found : y ≡ num file next (min 1 8)) (first : from ≡ saturated (a + 4)) (second : next ≡ saturated (a + 5)) where
-  two_bytes : version_type_test file tree_type a ≡ or_else (eqb x 0 && eqb y tree_type) (refused 21 []) (accepted [])
-  unfolding version_type_test
-  two_bytes = rw (version, found, first, second, num_saturated _ _ _ small, num_saturated _ _ _ small)
-
-  pub version_wrong : (x ≡ 0 → ⊥) → refused 21 [] ≡ version_type_test file tree_type a
-  version_wrong n = rw (two_bytes, ne_eqb x 0 n)
-
-  pub type_wrong : x ≡ 0 → (y ≡ tree_type → ⊥) → refused 21 [] ≡ version_type_test file tree_type a
-  type_wrong e n = rw (two_bytes, eq-eqb x 0 e, ne_eqb y tree_type n)
-
-  pub type_right : x ≡ 0 → y ≡ tree_type → accepted [] ≡ version_type_test file tree_type a
-  type_right e f = rw (two_bytes, eq-eqb x 0 e, eq-eqb y tree_type f)
 
 -- `check_checksum`: the number in four bytes is x, and the checksum of the bytes before it is y.
 module _ (l : List ℕ) (end x : ℕ) (stored : x ≡ num l end (min 4 8)) where

@@ -2,15 +2,11 @@
 use mathlib.Core.Path.{◌≡◌, refl}
 use mathlib.Core.Bool.{Bool, true, false, ◌&&◌}
 use mathlib.Core.List.{List, [], ◌∷◌}
-use Prim.Native.Nat.{ℕ, ◌+◌, ◌-◌}
-use native.Mathlib.Nat.{add-zero}
-use native.Mathlib.Omega.{arith}
+use Prim.Native.Nat.{ℕ, ◌-◌}
 use lib.Dec.{eqb}
-use lib.ListN.{drop}
 use borrow.Author.Tests.{eqb-true, eq-eqb, ne_eqb}
 use Rattle.checksum.specs.Lookup3.{lookup3}
 use Rattle.numbers.specs.Numbers.{part, num}
-use Rattle.numbers.proofs.Lists.{part_drop}
 use Rattle.refusal.specs.Answer.{Answer, refused}
 use Rattle.read_checks.specs.Tests.{same, checksum_test}
 
@@ -43,9 +39,3 @@ module _ (file : List ℕ) (from end : ℕ) (rest : Answer) (x y : ℕ) (stored 
   pub checksum_differs : (x ≡ y → ⊥) → checksum_test file from end rest ≡ refused 6 (x ∷ y ∷ [])
   unfolding checksum_test
   checksum_differs h = rw (← stored, ← computed, ne_eqb x y h)
-
--- The checksum of bytes in the part of a file from a on is that of the same bytes in the file.
-pub checksum_of_part : (file : List ℕ) (a end : ℕ) (rest : Answer) → checksum_test (drop a file) 0 end rest ≡ checksum_test file a (a + end) rest
-unfolding checksum_test num
-checksum_of_part file a end rest =
-    let e : a + end - a ≡ end - 0 = omega arith in rw (part_drop file a end 4, part_drop file a 0 (end - 0), add-zero, e)

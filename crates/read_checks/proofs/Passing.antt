@@ -1,5 +1,5 @@
 -- Where the readers' tests pass, and what a test that is passed tells.
-use mathlib.Core.Path.{◌≡◌, refl, ap, ◌∙◌}
+use mathlib.Core.Path.{◌≡◌, refl}
 use mathlib.Core.Bool.{Bool, true, false}
 use mathlib.Core.List.{List, [], ◌∷◌}
 use Prim.Native.Nat.{ℕ, ◌+◌, ◌≤◌}
@@ -9,7 +9,6 @@ use borrow.Author.Tests.{leb-true, le-leb, eq-eqb}
 use Rattle.numbers.specs.Numbers.{saturated, part}
 use Rattle.refusal.specs.Answer.{Answer, accepted, refused, or_else, on_accepted}
 use Rattle.read_checks.specs.Tests.{needs, same, front_test}
-use Rattle.read_checks.proofs.Plain.{Plain, no_figures}
 
 -- What a test that is passed tells.
 pub passed : (t : Bool) (number : ℕ) (values figures : List ℕ) (rest : Answer) → or_else t (refused number values) rest ≡ accepted figures
@@ -26,18 +25,6 @@ pub passed_both : (first next : Answer) (figures : List ℕ) → on_accepted fir
     → (f : List ℕ) × (first ≡ accepted f) × (next ≡ accepted figures)
 passed_both (accepted f) next figures e = (f, refl, e)
 passed_both (refused number values) next figures e = ([], cc, cc)
-
--- A test between two others: all pass exactly where the two pass without it and it passes by itself.
-pub passed_between : (first middle next : Answer) → Plain middle → on_accepted first (on_accepted middle next) ≡ accepted []
-    → (on_accepted first next ≡ accepted []) × (middle ≡ accepted [])
-passed_between (accepted f) middle next plain e =
-    let p = passed_both middle next [] e in (p.2, p.1 ∙ ap accepted (no_figures plain p.1))
-passed_between (refused number values) middle next plain e = (e, cc)
-
-pub between_passed : (first middle next : Answer) → on_accepted first next ≡ accepted [] → middle ≡ accepted []
-    → on_accepted first (on_accepted middle next) ≡ accepted []
-between_passed (accepted f) middle next e is = rw is e
-between_passed (refused number values) middle next e is = e
 
 pub same_refl : (xs : List ℕ) → same xs xs ≡ true
 unfolding same

@@ -1,6 +1,6 @@
 -- The tests of a node, and before the root, accept with no figures and never refuse by 15, which the output alone causes.
 use mathlib.Core.Path.{◌≡◌}
-use mathlib.Core.Bool.{Bool, true, false, ◌&&◌}
+use mathlib.Core.Bool.{Bool, true, false}
 use mathlib.Core.List.{List, []}
 use Prim.Native.Nat.{ℕ, ◌+◌, ◌-◌}
 use native.Mathlib.Omega.{arith}
@@ -9,7 +9,7 @@ use lib.ListN.{length}
 use Rattle.checksum.specs.Lookup3.{lookup3}
 use Rattle.numbers.specs.Numbers.{part, num}
 use Rattle.refusal.specs.Answer.{Answer, accepted, refused, or_else, on_accepted}
-use Rattle.read_checks.specs.Tests.{same, front_test, version_type_test, checksum_test, root_test}
+use Rattle.read_checks.specs.Tests.{same, front_test, checksum_test, root_test}
 
 pub data Plain : Answer → Type 0 where
   accepts : Plain (accepted [])
@@ -38,11 +38,6 @@ module _ (file : List ℕ) where
   unfolding front_test
   front_plain signature a =
       plain_or (leb (a + 6) (length file)) (refuses 1 (omega arith)) (plain_or (same (part file a 4) signature) (refuses 2 (omega arith)) accepts)
-
-  pub version_type_plain : (tree_type a : ℕ) → Plain (version_type_test file tree_type a)
-  unfolding version_type_test
-  version_type_plain tree_type a =
-      plain_or (eqb (num file (a + 4) 1) 0 && eqb (num file (a + 5) 1) tree_type) (refuses 21 (omega arith)) accepts
 
   pub checksum_plain : (from end : ℕ) → Plain (checksum_test file from end (accepted []))
   unfolding checksum_test

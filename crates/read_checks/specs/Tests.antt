@@ -1,5 +1,5 @@
--- Tests that the readers share: those before the root, bytes that are there, a signature, a node's front, its version and type, a checksum.
--- From document 01, "Header reader", "Collecting" and "Causes and numbers", and document 02, "Six".
+-- Tests that the readers share: those before the root, bytes that are there, a signature, a node's front, a checksum. From document 01,
+-- "Header reader", "Collecting" and "Causes and numbers".
 use Rattle.std.specs.Prelude.{ℕ, ◌+◌, ◌-◌, [], ◌∷◌, List, leb, ltb, eqb, length, Bool, true, false, ◌&&◌, ◌||◌}
 use Rattle.numbers.specs.Numbers.{saturated, part, num}
 use Rattle.refusal.specs.Answer.{Answer, accepted, refused, or_else}
@@ -21,11 +21,6 @@ same (x ∷ xs) (y ∷ ys) = eqb x y && same xs ys
 unfoldable pub front_test : List ℕ → List ℕ → ℕ → Answer
 front_test file signature a =
     needs (a + prefix_size) (length file) (or_else (same (part file a 4) signature) (refused 2 []) (accepted []))
-
--- Refusal 21 where the version of the node at a is not 0 or its type not this one: the two bytes after the signature.
-unfoldable pub version_type_test : List ℕ → ℕ → ℕ → Answer
-version_type_test file tree_type a =
-    or_else (eqb (num file (a + 4) 1) 0 && eqb (num file (a + 5) 1) tree_type) (refused 21 []) (accepted [])
 
 -- Refusal 6 where the four bytes at `end` are not the checksum of those from `from` to there.
 unfoldable pub checksum_test : List ℕ → ℕ → ℕ → Answer → Answer

@@ -6,7 +6,7 @@ ghost use Rattle.std.specs.Prelude.{◌≡◌, [], ◌∷◌, ◌+◌, ◌-◌, 
 ghost use Rattle.numbers.specs.Numbers.{part};
 ghost use Rattle.refusal.specs.Answer.{accepted, verdict_of};
 ghost use Rattle.read_checks.specs.Base.{base_test};
-ghost use Rattle.read_checks.specs.Tests.{needs, same, front_test, version_type_test, checksum_test, no_records, root_test};
+ghost use Rattle.read_checks.specs.Tests.{needs, same, front_test, checksum_test, no_records, root_test};
 
 use node_info::NodeInfo;
 use refusal::{Refusal, Verdict};
@@ -70,23 +70,6 @@ pub fn check_front(file: &[u8], address: u64, third: u8, fourth: u8) -> Verdict
         return Verdict::Accepted;
     }
     Verdict::Refused(Refusal::InvalidBTreeV2Signature)
-}
-
-// Refusal 21 where the node at this address has not version 0 and this type. A byte that is not there counts as 0.
-pub fn check_version_and_type(file: &[u8], address: u64, tree_type: u8) -> Verdict
-    ensures { verdict_of result ≡ version_type_test file.now tree_type address }
-{
-    let version_at = numbers::saturating_add(address, 4);
-    let type_at = numbers::saturating_add(address, 5);
-    let version = numbers::read_le(file, version_at as usize, 1);
-    let found = numbers::read_le(file, type_at as usize, 1);
-    if version != 0 {
-        return Verdict::Refused(Refusal::NodeVersionOrType);
-    }
-    if found != tree_type as u64 {
-        return Verdict::Refused(Refusal::NodeVersionOrType);
-    }
-    Verdict::Accepted
 }
 
 // Refusal 6 where the number in the four bytes at `end` is not the checksum of the bytes from `from` to there; each is of as many bytes

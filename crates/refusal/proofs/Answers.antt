@@ -12,7 +12,7 @@ use lib.Seq.{take-append-add, take-append-le, take-take, take_at, take-suc, take
 use Rattle.refusal.specs.declared.Refusal.{Refusal}
 use Rattle.refusal.specs.declared.Refusal.TheVariants.{UnexpectedEof, InvalidBTreeV2Signature, InvalidBTreeV2Version, InvalidOffsetSize, InvalidLengthSize, ChecksumMismatch, InvalidNodeSize, ZeroRecordSize, TooManyRecords}
 use Rattle.refusal.specs.declared.Refusal.TheVariants.{LevelHoldsNone, SubtreeTooThin, RecordBufferLength, CountAboveLengthSize, AddressAboveOffsetSize, OutputTooShort, DepthAboveLimit}
-use Rattle.refusal.specs.declared.Refusal.TheVariants.{InvalidKeyField, BaseBeyondFile, UnknownRecordType, RecordTypeMismatch, NodeVersionOrType, TotalDiffers}
+use Rattle.refusal.specs.declared.Refusal.TheVariants.{InvalidKeyField, BaseBeyondFile, UnknownRecordType, RecordTypeMismatch}
 use Rattle.refusal.specs.declared.Verdict.{Verdict}
 use Rattle.refusal.specs.declared.Verdict.TheVariants.{Accepted, Refused}
 
@@ -88,8 +88,6 @@ refused_is InvalidKeyField = (_, _, refl, lit≤ tt, lit< tt)
 refused_is BaseBeyondFile = (_, _, refl, lit≤ tt, lit< tt)
 refused_is UnknownRecordType = (_, _, refl, lit≤ tt, lit< tt)
 refused_is RecordTypeMismatch = (_, _, refl, lit≤ tt, lit< tt)
-refused_is NodeVersionOrType = (_, _, refl, lit≤ tt, lit< tt)
-refused_is TotalDiffers = (_, _, refl, lit≤ tt, lit< tt)
 
 pub cells_more : (r : Refusal) (m : ℕ) → cells (m + 3) (refusal_of r) ≡ cells 3 (refusal_of r) ++ replicate m 0
 cells_more r m = let s = refused_is r in rw s.2 (more m s.0 s.1 s.3)

@@ -1,9 +1,9 @@
--- An answer in document 01's terms, and the number and values that it gives to each cause ("Causes and numbers"); 17 to 22 are document 02's.
+-- An answer in document 01's terms, and the number and values that it gives to each cause ("Causes and numbers"); 17 to 20 are document 02's.
 use Rattle.std.specs.Prelude.{ℕ, List, [], ◌∷◌, ◌++◌, Bool, true, false, take, replicate}
 use Rattle.refusal.specs.declared.Refusal.{Refusal}
 use Rattle.refusal.specs.declared.Refusal.TheVariants.{UnexpectedEof, InvalidBTreeV2Signature, InvalidBTreeV2Version, InvalidOffsetSize, InvalidLengthSize, ChecksumMismatch, InvalidNodeSize, ZeroRecordSize, TooManyRecords}
 use Rattle.refusal.specs.declared.Refusal.TheVariants.{LevelHoldsNone, SubtreeTooThin, RecordBufferLength, CountAboveLengthSize, AddressAboveOffsetSize, OutputTooShort, DepthAboveLimit}
-use Rattle.refusal.specs.declared.Refusal.TheVariants.{InvalidKeyField, BaseBeyondFile, UnknownRecordType, RecordTypeMismatch, NodeVersionOrType, TotalDiffers}
+use Rattle.refusal.specs.declared.Refusal.TheVariants.{InvalidKeyField, BaseBeyondFile, UnknownRecordType, RecordTypeMismatch}
 use Rattle.refusal.specs.declared.Verdict.{Verdict}
 use Rattle.refusal.specs.declared.Verdict.TheVariants as verdict
 use Rattle.refusal.specs.declared.PutAnswer.{PutAnswer}
@@ -41,8 +41,6 @@ refusal_of InvalidKeyField = refused 17 []
 refusal_of BaseBeyondFile = refused 18 []
 refusal_of UnknownRecordType = refused 19 []
 refusal_of RecordTypeMismatch = refused 20 []
-refusal_of NodeVersionOrType = refused 21 []
-refusal_of TotalDiffers = refused 22 []
 
 -- What the verdict of a test says.
 abbrev pub verdict_of : Verdict → Answer

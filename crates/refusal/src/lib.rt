@@ -48,10 +48,6 @@ pub enum Refusal {
     UnknownRecordType,
     // 20: a record's length is not its type's, or a value is too large for its field
     RecordTypeMismatch,
-    // 21: a node's version is not 0, or its type not the header's
-    NodeVersionOrType,
-    // 22: a subtree's total, or the header's number of records, is not that of the records put out; or just one of the header's two is 0
-    TotalDiffers,
 }
 
 // A cause's number and its values, 0 where it has fewer than two.
@@ -103,8 +99,6 @@ impl Refusal {
             Refusal::BaseBeyondFile => of_two(18, 0, 0),
             Refusal::UnknownRecordType => of_two(19, 0, 0),
             Refusal::RecordTypeMismatch => of_two(20, 0, 0),
-            Refusal::NodeVersionOrType => of_two(21, 0, 0),
-            Refusal::TotalDiffers => of_two(22, 0, 0),
         }
     }
 }

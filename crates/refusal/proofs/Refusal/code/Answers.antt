@@ -83,11 +83,3 @@ returns-in-UnknownRecordType c = code_is c.in-UnknownRecordType.is c.of_two-in-U
 pub returns-in-RecordTypeMismatch : goal.returns-in-RecordTypeMismatch
 unfolding cells
 returns-in-RecordTypeMismatch c = code_is c.in-RecordTypeMismatch.is c.of_two-in-RecordTypeMismatch.ensures refl
-
-pub returns-in-NodeVersionOrType : goal.returns-in-NodeVersionOrType
-unfolding cells
-returns-in-NodeVersionOrType c = code_is c.in-NodeVersionOrType.is c.of_two-in-NodeVersionOrType.ensures refl
-
-pub returns-in-TotalDiffers : goal.returns-in-TotalDiffers
-unfolding cells
-returns-in-TotalDiffers c = code_is c.in-TotalDiffers.is c.of_two-in-TotalDiffers.ensures refl
