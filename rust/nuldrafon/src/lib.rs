@@ -4,11 +4,12 @@
 //! group, attributes of an object, chunks of a dataset. It is a header, and nodes of one size that
 //! hold the records in the order in which they were given.
 //!
-//! The calls are those of the static libraries that `scripts/prove archives` makes of the Rattle crates. Of
-//! each it is proved that it takes every input, reads and writes only what it is lent, ends, and
-//! answers what its definition says; and of a write, a header read and a collecting one after
-//! another that every record comes back, in order and byte for byte. This crate is the safe Rust
-//! around them. It is tested and not proved, has no dependencies, and none of its functions panics.
+//! The calls are those of the static libraries that `scripts/prove archives` makes of the Rattle
+//! crates. Of each it is proved that it takes every input, reads and writes only what it is lent,
+//! ends, and answers what its definition says; and of a write, a header read and a collecting one
+//! after another that every record comes back, in order and byte for byte. This crate is the safe
+//! Rust around them. It is tested and not proved, has no dependencies, and none of its functions
+//! panics.
 //!
 //! | To | Call |
 //! |---|---|
