@@ -2,7 +2,7 @@
 use mathlib.Core.Path.{◌≡◌, refl, sym}
 use Prim.Native.Nat.{◌-◌, ℕ, suc, ◌+◌, ◌≤◌, ◌<◌}
 use lib.Dec.{lit<, lit≤}
-use Rattle.refusal.specs.Answer.{Answer, accepted, refused, refusal_of, verdict_of, cells}
+use Rattle.refusal.specs.Answer.{Answer, accepted, refused, refusal_of, cells}
 use mathlib.Core.List.{List, [], ◌∷◌, ◌++◌, append_assoc}
 use native.Mathlib.Nat.{add_comm}
 use native.Mathlib.Numerals.{add-one}
@@ -13,8 +13,6 @@ use Rattle.refusal.specs.declared.Refusal.{Refusal}
 use Rattle.refusal.specs.declared.Refusal.TheVariants.{UnexpectedEof, InvalidBTreeV2Signature, InvalidBTreeV2Version, InvalidOffsetSize, InvalidLengthSize, ChecksumMismatch, InvalidNodeSize, ZeroRecordSize, TooManyRecords}
 use Rattle.refusal.specs.declared.Refusal.TheVariants.{LevelHoldsNone, SubtreeTooThin, RecordBufferLength, CountAboveLengthSize, AddressAboveOffsetSize, OutputTooShort, DepthAboveLimit}
 use Rattle.refusal.specs.declared.Refusal.TheVariants.{InvalidKeyField, BaseBeyondFile, UnknownRecordType, RecordTypeMismatch}
-use Rattle.refusal.specs.declared.Verdict.{Verdict}
-use Rattle.refusal.specs.declared.Verdict.TheVariants.{Accepted, Refused}
 
 -- k numbers are k.
 pub length_cells : (k : ℕ) (a : Answer) → length (cells k a) ≡ k
@@ -102,15 +100,19 @@ put_length x e = rw (e, length_cells)
 pub put_is : {x y : Answer} {z : List ℕ} {n k : ℕ} → x ≡ y → n ≡ k → z ≡ cells n x → z ≡ cells k y
 put_is e l h = rw (← e, ← l) h
 
--- What `of_two` gives in an arm is the cause's number and values.
-pub code_is : {s t : Refusal} {n x y a b c : ℕ} → s ≡ t → (a ≡ n) × (b ≡ x) × (c ≡ y) → n ∷ x ∷ y ∷ [] ≡ cells 3 (refusal_of t)
-    → a ∷ b ∷ c ∷ [] ≡ cells 3 (refusal_of s)
-code_is e h r = rw (e, h.0, h.1, h.2) r
-
--- What a verdict tells: zeros, or what its cause tells.
-pub accepted_code : {v : Verdict} {a b c : ℕ} → v ≡ Accepted → (a ≡ 0) × (b ≡ 0) × (c ≡ 0) → a ∷ b ∷ c ∷ [] ≡ cells 3 (verdict_of v)
+-- A cause of no value, of one and of two, and an accepted test, as three numbers.
+pub told_alone : (number : ℕ) → number ∷ 0 ∷ 0 ∷ [] ≡ cells 3 (refused number [])
 unfolding cells
-accepted_code e h = rw (e, h.0, h.1, h.2)
+told_alone number = refl
 
-pub refused_code : {v : Verdict} {r : Refusal} {t : List ℕ} → v ≡ Refused r → t ≡ cells 3 (refusal_of r) → t ≡ cells 3 (verdict_of v)
-refused_code e h = rw e h
+pub told_one : (number value : ℕ) → number ∷ value ∷ 0 ∷ [] ≡ cells 3 (refused number (value ∷ []))
+unfolding cells
+told_one number value = refl
+
+pub told_two : (number first second : ℕ) → number ∷ first ∷ second ∷ [] ≡ cells 3 (refused number (first ∷ second ∷ []))
+unfolding cells
+told_two number first second = refl
+
+pub told_accepted : 0 ∷ 0 ∷ 0 ∷ [] ≡ cells 3 (accepted [])
+unfolding cells
+told_accepted = refl

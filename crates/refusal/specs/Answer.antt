@@ -1,13 +1,9 @@
 -- An answer in document 01's terms, and the number and values that it gives to each cause ("Causes and numbers"); 17 to 20 are document 02's.
-use Rattle.std.specs.Prelude.{ℕ, List, [], ◌∷◌, ◌++◌, Bool, true, false, take, replicate}
+use Rattle.std.specs.Prelude.{ℕ, List, [], ◌∷◌, ◌++◌, Bool, true, false, take, replicate, Result, Ok, Err, ⊤}
 use Rattle.refusal.specs.declared.Refusal.{Refusal}
 use Rattle.refusal.specs.declared.Refusal.TheVariants.{UnexpectedEof, InvalidBTreeV2Signature, InvalidBTreeV2Version, InvalidOffsetSize, InvalidLengthSize, ChecksumMismatch, InvalidNodeSize, ZeroRecordSize, TooManyRecords}
 use Rattle.refusal.specs.declared.Refusal.TheVariants.{LevelHoldsNone, SubtreeTooThin, RecordBufferLength, CountAboveLengthSize, AddressAboveOffsetSize, OutputTooShort, DepthAboveLimit}
 use Rattle.refusal.specs.declared.Refusal.TheVariants.{InvalidKeyField, BaseBeyondFile, UnknownRecordType, RecordTypeMismatch}
-use Rattle.refusal.specs.declared.Verdict.{Verdict}
-use Rattle.refusal.specs.declared.Verdict.TheVariants as verdict
-use Rattle.refusal.specs.declared.PutAnswer.{PutAnswer}
-use Rattle.refusal.specs.declared.PutAnswer.TheVariants as put
 
 -- Accepted with the figures that the call gives, or refused by a number with its values.
 pub data Answer : Type 0 where
@@ -42,15 +38,18 @@ refusal_of BaseBeyondFile = refused 18 []
 refusal_of UnknownRecordType = refused 19 []
 refusal_of RecordTypeMismatch = refused 20 []
 
--- What the verdict of a test says.
-abbrev pub verdict_of : Verdict → Answer
-verdict_of verdict.Accepted = accepted []
-verdict_of (verdict.Refused r) = refusal_of r
+-- What a call says: the figures of what it gives, or its refusal.
+abbrev pub answer_of : {A : Type 0} → (A → List ℕ) → Result A Refusal → Answer
+answer_of figures (Ok given) = accepted (figures given)
+answer_of figures (Err cause) = refusal_of cause
+
+-- What a test says.
+abbrev pub verdict_of : Result ⊤ Refusal → Answer
+verdict_of = answer_of (λ _. [])
 
 -- What a call says that puts bytes out: their length.
-abbrev pub put_answer_of : PutAnswer → Answer
-put_answer_of (put.Put length) = accepted (length ∷ [])
-put_answer_of (put.Refused r) = refusal_of r
+abbrev pub put_answer_of : Result ℕ Refusal → Answer
+put_answer_of = answer_of (λ length. length ∷ [])
 
 -- An answer as k numbers: the refusal's number (0 where accepted), the figures or values, and zeros.
 unfoldable pub cells : ℕ → Answer → List ℕ

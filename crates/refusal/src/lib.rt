@@ -1,12 +1,12 @@
-// The causes for which a call is refused, the number and values of each, the verdict of a test, and the answer of a call that puts bytes out.
+// The causes for which a call is refused, and the number and values of each. A test answers `Result<(), Refusal>`.
 
 #![tactic(auto)]
 
-ghost use Rattle.std.specs.Prelude.{◌≡◌, [], ◌∷◌};
-ghost use Rattle.refusal.specs.Answer.{refusal_of, verdict_of, cells};
+ghost use Rattle.std.specs.Prelude.{◌≡◌};
+ghost use Rattle.refusal.specs.Told.{cause_told, verdict_told};
 
 // A cause, named as in hdf5-pure where that has it.
-#[derive(Clone, Copy)]
+#[derive(Clone, Copy, Debug, PartialEq, Eq)]
 pub enum Refusal {
     // 1: the file ends early
     UnexpectedEof { expected: u64, available: u64 },
@@ -51,7 +51,7 @@ pub enum Refusal {
 }
 
 // A cause's number and its values, 0 where it has fewer than two.
-#[derive(Clone, Copy)]
+#[derive(Clone, Copy, Debug, PartialEq, Eq)]
 pub struct Code {
     pub number: u64,
     pub first: u64,
@@ -68,12 +68,12 @@ fn of_two(number: u64, first: u64, second: u64) -> Code
     }
 }
 
-impl Refusal {
-    // The number and values of this cause.
-    pub fn code(self) -> Code
-        ensures { result.number ∷ result.first ∷ result.second ∷ [] ≡ cells 3 (refusal_of self) }
-    {
-        match self {
+impl From<Refusal> for Code {
+    ghost from_gives = { cause_told };
+
+    #[tactic(auto, using(crate::proofs::Answers::told_alone, crate::proofs::Answers::told_one, crate::proofs::Answers::told_two))]
+    fn from(cause: Refusal) -> Code {
+        match cause {
             Refusal::UnexpectedEof {
                 expected,
                 available,
@@ -103,28 +103,15 @@ impl Refusal {
     }
 }
 
-// The verdict of a test.
-#[derive(Clone, Copy)]
-pub enum Verdict {
-    Accepted,
-    Refused(Refusal),
-}
+// A verdict's number and values: those of the refusal, zeros where there is none.
+impl From<Result<(), Refusal>> for Code {
+    ghost from_gives = { verdict_told };
 
-impl Verdict {
-    // The number and values of the refusal, zeros where there is none.
-    pub fn code(self) -> Code
-        ensures { result.number ∷ result.first ∷ result.second ∷ [] ≡ cells 3 (verdict_of self) }
-    {
-        match self {
-            Verdict::Accepted => of_two(0, 0, 0),
-            Verdict::Refused(cause) => cause.code(),
+    #[tactic(auto, using(crate::proofs::Answers::told_accepted))]
+    fn from(verdict: Result<(), Refusal>) -> Code {
+        match verdict {
+            Ok(()) => of_two(0, 0, 0),
+            Err(cause) => Code::from(cause),
         }
     }
-}
-
-// The length of what was put at the front of an output, or why nothing was.
-#[derive(Clone, Copy)]
-pub enum PutAnswer {
-    Put(u64),
-    Refused(Refusal),
 }
