@@ -23,7 +23,7 @@ pub fn is_number_field(field: Field, record_size: u16) -> bool
     if 8 < field.width {
         return false;
     }
-    numbers::saturating_add(field.start, field.width) <= record_size as u64
+    field.start.saturating_add(field.width) <= record_size as u64
 }
 
 // The field's number in the record at `place`; of a field that runs past the end of the data, its bytes before the end. A width above 8
@@ -31,7 +31,7 @@ pub fn is_number_field(field: Field, record_size: u16) -> bool
 pub fn read_number(data: &[u8], field: Field, place: u64) -> u64
     ensures { result ≡ num «data».now (place + field.start) (min field.width 8) }
 {
-    let at = numbers::saturating_add(place, field.start);
+    let at = place.saturating_add(field.start);
     low_bytes(read_u64(numbers::part(data, at, 8)), field.width)
 }
 
@@ -41,7 +41,7 @@ fn read_u64(data: &[u8]) -> u64
 {
     if data.len() < 8 {
         let mut eight = [0u8; 8];
-        numbers::put_bytes(&mut eight, 0, data);
+        numbers::put(&mut eight, 0, data);
         return join(&eight);
     }
     join(data)

@@ -1,4 +1,4 @@
--- `part`, `copy` and `put_bytes`: bytes that are handed out, and bytes that are copied to a place; and zeros over a whole buffer.
+-- `part` and `put`: bytes that are handed out, and items that are copied to a place; a buffer that is copied or cleared index by index.
 use mathlib.Core.Path.{◌≡◌, refl, sym}
 use mathlib.Core.List.{List, [], ◌++◌, append-nil}
 use Prim.Native.Nat.{ℕ, ◌-◌, ◌+◌, ◌^◌, ◌≤◌, ◌<◌}
@@ -76,16 +76,9 @@ module _ (to₀ : List ℕ) where
     cleared_end h =
         let e : i ≡ length to₀ = omega arith in rw (inv.2, e, drop-length, append-nil)
 
--- `put_bytes`: no place, no room, and a part that was lent, back at its place.
-module _ (o b : List ℕ) (at : ℕ) where
-  pub bytes_no_place : length o < at → o ≡ put o at b
-  bytes_no_place h = sym (put_not o at b (omega arith))
-
-  pub bytes_no_room : at ≤ length o → length o - at < length b → o ≡ put o at b
-  bytes_no_room l h = sym (put_not o at b (omega arith))
-
-  pub bytes_put : (d : List ℕ) → at ≤ length o → length b ≤ length o - at → d ≡ b → put_mid at (at + length b - at) o d ≡ put o at b
-  bytes_put d l h e = rw (e, put_fits o at b (omega arith), stored_is, add-sub_cancel_left, drop-drop)
+-- `put`: a part that was lent, back at its place.
+pub items_put : {A : Type 0} (o b d : List A) (at : ℕ) → d ≡ b → at + length b ≤ length o → put_mid at (at + length b - at) o d ≡ put o at b
+items_put o b d at e h = rw (e, put_fits o at b h, stored_is, add-sub_cancel_left, drop-drop)
 
 -- A part of another slice that fits.
 pub part_put : (o l d : List ℕ) (at from count : ℕ) → at + count ≤ length o → from + count ≤ length l

@@ -58,61 +58,62 @@ module _ {A : Type 0} where
   pub part_min : (l : List A) (p w : ℕ) → part l p (min w (length l - p)) ≡ part l p w
   part_min l p w = rw (← length-drop p l, take_min)
 
--- What `stored` is, for rw.
-pub stored_is : (o : List ℕ) (p : ℕ) (b : List ℕ) → stored o p b ≡ take p o ++ (b ++ drop (p + length b) o)
-unfolding stored
-stored_is o p b = refl
+module _ {A : Type 0} where
+  -- What `stored` is, for rw.
+  pub stored_is : (o : List A) (p : ℕ) (b : List A) → stored o p b ≡ take p o ++ (b ++ drop (p + length b) o)
+  unfolding stored
+  stored_is o p b = refl
 
--- Nothing stored; all; one element.
-pub stored_nil : (o : List ℕ) (p : ℕ) → stored o p [] ≡ o
-stored_nil o p = rw (stored_is, add-zero, take-append-drop)
+  -- Nothing stored; all; one element.
+  pub stored_nil : (o : List A) (p : ℕ) → stored o p [] ≡ o
+  stored_nil o p = rw (stored_is, add-zero, take-append-drop)
 
-pub stored_whole : (o b : List ℕ) → length o ≤ length b → stored o 0 b ≡ b
-stored_whole o b h = rw (stored_is, zero-add, drop_of_length-le o h, append-nil)
+  pub stored_whole : (o b : List A) → length o ≤ length b → stored o 0 b ≡ b
+  stored_whole o b h = rw (stored_is, zero-add, drop_of_length-le o h, append-nil)
 
-pub stored_one : (o : List ℕ) (p x : ℕ) → p < length o → set o p x ≡ stored o p (x ∷ [])
-stored_one o p x h = rw (stored_is, set_split o p x h, add-one)
+  pub stored_one : (o : List A) (p : ℕ) (x : A) → p < length o → set o p x ≡ stored o p (x ∷ [])
+  stored_one o p x h = rw (stored_is, set_split o p x h, add-one)
 
-pub length_stored : (o : List ℕ) (p : ℕ) (b : List ℕ) → p + length b ≤ length o → length (stored o p b) ≡ length o
-length_stored o p b h = rw stored_is (simp (length-append, length-take, length-drop) (omega arith))
+  pub length_stored : (o : List A) (p : ℕ) (b : List A) → p + length b ≤ length o → length (stored o p b) ≡ length o
+  length_stored o p b h = rw stored_is (simp (length-append, length-take, length-drop) (omega arith))
 
-module _ (o : List ℕ) (p : ℕ) (b : List ℕ) (h : p ≤ length o) where
-  -- What stands before, at and after the place.
-  pub take_stored : take p (stored o p b) ≡ take p o
-  take_stored = rw (stored_is, take_at (take p o) (b ++ drop (p + length b) o) p (length-take-le p o h))
+  module _ (o : List A) (p : ℕ) (b : List A) (h : p ≤ length o) where
+    -- What stands before, at and after the place.
+    pub take_stored : take p (stored o p b) ≡ take p o
+    take_stored = rw (stored_is, take_at (take p o) (b ++ drop (p + length b) o) p (length-take-le p o h))
 
-  from : drop p (stored o p b) ≡ b ++ drop (p + length b) o
-  from = rw (stored_is, drop_at (take p o) (b ++ drop (p + length b) o) p (length-take-le p o h))
+    from : drop p (stored o p b) ≡ b ++ drop (p + length b) o
+    from = rw (stored_is, drop_at (take p o) (b ++ drop (p + length b) o) p (length-take-le p o h))
 
-  pub part_stored : part (stored o p b) p (length b) ≡ b
-  part_stored = rw (from, take-append_seam)
+    pub part_stored : part (stored o p b) p (length b) ≡ b
+    part_stored = rw (from, take-append_seam)
 
-  pub take_stored_end : take (p + length b) (stored o p b) ≡ take p o ++ b
-  take_stored_end = rw (take-add, take_stored, part_stored)
+    pub take_stored_end : take (p + length b) (stored o p b) ≡ take p o ++ b
+    take_stored_end = rw (take-add, take_stored, part_stored)
 
-  pub drop_stored_end : drop (p + length b) (stored o p b) ≡ drop (p + length b) o
-  drop_stored_end = rw (← drop-drop (length b) p (stored o p b), from, drop-append_seam)
+    pub drop_stored_end : drop (p + length b) (stored o p b) ≡ drop (p + length b) o
+    drop_stored_end = rw (← drop-drop (length b) p (stored o p b), from, drop-append_seam)
 
-  -- Storing c right after b is storing b ++ c; then the same for one element.
-  pub stored_append : (c : List ℕ) → stored (stored o p b) (p + length b) c ≡ stored o p (b ++ c)
-  stored_append c =
-      rw (stored_is (stored o p b) (p + length b) c, stored_is o p (b ++ c), take_stored_end, ← drop-drop (length c) (p + length b) (stored o p b), drop_stored_end, drop-drop, length-append, ← add_assoc)
-      (simp append_assoc)
+    -- Storing c right after b is storing b ++ c; then the same for one element.
+    pub stored_append : (c : List A) → stored (stored o p b) (p + length b) c ≡ stored o p (b ++ c)
+    stored_append c =
+        rw (stored_is (stored o p b) (p + length b) c, stored_is o p (b ++ c), take_stored_end, ← drop-drop (length c) (p + length b) (stored o p b), drop_stored_end, drop-drop, length-append, ← add_assoc)
+        (simp append_assoc)
 
-pub stored_snoc : (o : List ℕ) (p : ℕ) (b : List ℕ) (x : ℕ) → p + length b < length o
-    → set (stored o p b) (p + length b) x ≡ stored o p (b ++ (x ∷ []))
-stored_snoc o p b x h =
-    rw (stored_one (stored o p b) (p + length b) x (rw (length_stored o p b (omega arith)) h), stored_append o p b (omega arith) (x ∷ []))
+  pub stored_snoc : (o : List A) (p : ℕ) (b : List A) (x : A) → p + length b < length o
+      → set (stored o p b) (p + length b) x ≡ stored o p (b ++ (x ∷ []))
+  stored_snoc o p b x h =
+      rw (stored_one (stored o p b) (p + length b) x (rw (length_stored o p b (omega arith)) h), stored_append o p b (omega arith) (x ∷ []))
 
--- Stored in what follows a place.
-pub stored_drop : (o : List ℕ) (k p : ℕ) (b : List ℕ) → take k o ++ stored (drop k o) p b ≡ stored o (k + p) b
-stored_drop o k p b = rw (stored_is (drop k o) p b, stored_is o (k + p) b, take-add, drop-drop, append_assoc, add_assoc)
+  -- Stored in what follows a place.
+  pub stored_drop : (o : List A) (k p : ℕ) (b : List A) → take k o ++ stored (drop k o) p b ≡ stored o (k + p) b
+  stored_drop o k p b = rw (stored_is (drop k o) p b, stored_is o (k + p) b, take-add, drop-drop, append_assoc, add_assoc)
 
--- Where b fits it is stored, else nothing changes.
-pub put_fits : (o : List ℕ) (p : ℕ) (b : List ℕ) → p + length b ≤ length o → put o p b ≡ stored o p b
-unfolding put
-put_fits o p b h = rw (le-leb (p + length b) (length o) h)
+  -- Where b fits it is stored, else nothing changes.
+  pub put_fits : (o : List A) (p : ℕ) (b : List A) → p + length b ≤ length o → put o p b ≡ stored o p b
+  unfolding put
+  put_fits o p b h = rw (le-leb (p + length b) (length o) h)
 
-pub put_not : (o : List ℕ) (p : ℕ) (b : List ℕ) → length o < p + length b → put o p b ≡ o
-unfolding put
-put_not o p b h = rw (lt-leb (p + length b) (length o) h)
+  pub put_not : (o : List A) (p : ℕ) (b : List A) → length o < p + length b → put o p b ≡ o
+  unfolding put
+  put_not o p b h = rw (lt-leb (p + length b) (length o) h)

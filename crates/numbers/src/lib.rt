@@ -15,15 +15,8 @@ pub fn read_le(data: &[u8], at: usize, width: usize) -> u64
     if data.len() <= at {
         return 0;
     }
-    let n = smaller(smaller(width, 8), data.len() - at);
+    let n = width.min(8).min(data.len() - at);
     read_bytes(&data[at..], n)
-}
-
-// The smaller of two numbers.
-pub fn smaller(a: usize, b: usize) -> usize
-    ensures { result ≡ min a b }
-{
-    if a < b { a } else { b }
 }
 
 // The number in the first n bytes.
@@ -77,32 +70,15 @@ pub fn part<'a>(data: &'a [u8], at: u64, count: u64) -> &'a [u8]
     &data[from..from + (count as usize)]
 }
 
-// Copies a slice over another of the same length.
-fn copy(to: &mut [u8], from: &[u8])
-    requires { length to.old ≡ length from.now }
-    ensures { to.new ≡ from.now }
+// Puts items at `at` where they fit; else changes nothing.
+#[tactic(auto, using(crate::proofs::Copying::items_put, crate::proofs::Lists::put_not))]
+pub fn put<T: Copy>(data: &mut [T], at: usize, items: &[T])
+    ensures { «data».new ≡ put «data».old at items.now }
 {
-    let n = to.len();
-    let mut i = 0;
-    while i < n {
-        to[i] = from[i];
-        i += 1;
+    let (len, count) = (data.len(), items.len());
+    if at <= len && count <= len - at {
+        data[at..at + count].copy_from_slice(items);
     }
-}
-
-// Puts bytes at `at` where they fit; else changes nothing.
-pub fn put_bytes(data: &mut [u8], at: usize, bytes: &[u8])
-    ensures { «data».new ≡ put «data».old at bytes.now }
-{
-    let len = data.len();
-    let count = bytes.len();
-    if len < at {
-        return;
-    }
-    if len - at < count {
-        return;
-    }
-    copy(&mut data[at..at + count], bytes);
 }
 
 // The number of bytes that hold a count: 1 for zero.
@@ -116,24 +92,12 @@ pub fn bytes_for_max_records(max_nrec: u64) -> u8
     ((bits + 7) / 8) as u8
 }
 
-// a + b, saturated at 2^64 - 1.
-pub fn saturating_add(a: u64, b: u64) -> u64
-    ensures { result ≡ saturated (a + b) }
+// a * b + c, saturated at 2^64 - 1: by the whole product, since the library's `saturating_mul` divides.
+pub fn saturating_mul_add(a: u64, b: u64, c: u64) -> u64
+    ensures { result ≡ saturated (a * b + c) }
 {
-    if a <= u64::MAX - b { a + b } else { u64::MAX }
-}
-
-// a * b, saturated at 2^64 - 1. Small factors need no quotient.
-pub fn saturating_mul(a: u64, b: u64) -> u64
-    ensures { result ≡ saturated (a * b) }
-{
-    if a <= 0xffff_ffff && b <= 0xffff_ffff {
-        return a * b;
-    }
-    if a == 0 {
-        return 0;
-    }
-    if b <= u64::MAX / a { a * b } else { u64::MAX }
+    let (low, high) = a.carrying_mul(b, c);
+    if high == 0 { low } else { u64::MAX }
 }
 
 // Whether offsets or lengths may have this size.

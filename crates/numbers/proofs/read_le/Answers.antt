@@ -6,4 +6,4 @@ pub returns-then-data-at : goal.returns-then-data-at
 returns-then-data-at c = read_past _ _ _ c.if-data-at.true
 
 pub returns : goal.returns
-returns c = read_part _ _ _ _ _ _ c.smaller.ensures c.smaller-n.ensures c.read_bytes.ensures
+returns c = read_part _ _ _ _ _ _ c.min.ensures c.min-n.ensures c.read_bytes.ensures
