@@ -2,12 +2,11 @@
 
 #![tactic(auto)]
 
-ghost use Rattle.std.specs.Prelude.{◌≡◌, leb};
-ghost use Rattle.numbers.specs.Numbers.{pick};
-ghost use Rattle.node_info.specs.Capacity.{leaf_capacity, child_pointer_size, internal_capacity};
-ghost use Rattle.node_info.specs.Table.{info_at, next_level, no_info, tabled, table_answer};
+ghost use Rattle.std.specs.Prelude.{◌≡◌, IfOk};
+ghost use Rattle.node_info.specs.Capacity.{leaf_capacity, internal_capacity};
+ghost use Rattle.node_info.specs.Table.{pointer_size, pointer_in, info_at, next_level, with_level_above, tabled, table_answer};
 
-use refusal::{Refusal, Verdict};
+use refusal::Refusal;
 
 // A tree's sizes in bytes: of a node, of a record, and of an address.
 #[derive(Clone, Copy)]
@@ -17,35 +16,53 @@ pub struct Geometry {
     pub offset_size: u8,
 }
 
-// The table; an entry above the depth that it was made for is 0.
+// The bytes of a child pointer's three fields: the child's address, its record count, and its subtree's total.
+#[derive(Clone, Copy)]
+pub struct ChildPointer {
+    pub offset_size: u8,
+    pub count_size: u8,
+    pub total_size: u8,
+}
+
+impl ChildPointer {
+    // Its bytes in all (P).
+    pub fn size(self) -> u64
+        ensures { result ≡ pointer_size self }
+    {
+        (self.offset_size as u64) + (self.count_size as u64) + (self.total_size as u64)
+    }
+}
+
+// A level's entries.
+#[derive(Clone, Copy)]
+pub struct Level {
+    // records in a full node (M)
+    pub max_nrec: u64,
+    // records in a full subtree whose root is of the level (C)
+    pub cum_max_nrec: u64,
+    // width of such a subtree's total (T)
+    pub cum_max_nrec_size: u8,
+}
+
+impl Level {
+    // A level that holds nothing.
+    pub const NONE: Level = Level {
+        max_nrec: 0,
+        cum_max_nrec: 0,
+        cum_max_nrec_size: 0,
+    };
+}
+
+// The table; a level above the depth that it was made for holds nothing.
 #[derive(Clone, Copy)]
 pub struct NodeInfo {
     // width of a child's record count (W)
     pub max_nrec_size: u8,
-    // width of a subtree's total, by the level of the subtree's root (T)
-    pub cum_max_nrec_size: [u8; 33],
-    // records in a full node of each level (M)
-    pub max_nrec: [u64; 33],
-    // records in a full subtree of each level (C)
-    pub cum_max_nrec: [u64; 33],
-}
-
-// An array can't stand in an enum, so the table stands beside the verdict: all zeros where it is refused.
-#[derive(Clone, Copy)]
-pub struct NodeInfoAnswer {
-    pub verdict: Verdict,
-    pub info: NodeInfo,
-}
-
-// A level's entries: M, C and T.
-#[derive(Clone, Copy)]
-pub struct Level {
-    pub most: u64,
-    pub all: u64,
-    pub total: u8,
+    pub levels: [Level; 33],
 }
 
 // Records in a full leaf.
+#[tactic(auto, using(crate::proofs::Growing::leaf_small, crate::proofs::Growing::leaf_no_size, crate::proofs::Growing::leaf_is))]
 fn max_records_leaf(geometry: Geometry) -> u64
     ensures { result ≡ leaf_capacity geometry }
 {
@@ -58,33 +75,37 @@ fn max_records_leaf(geometry: Geometry) -> u64
     (geometry.node_size - NodeInfo::OVERHEAD) as u64 / (geometry.record_size as u64)
 }
 
-// Records in a full internal node whose child pointers have `pointer` bytes.
-fn max_records_internal(geometry: Geometry, pointer: u16) -> u64
-    ensures { result ≡ internal_capacity geometry pointer }
+// Records in a full internal node with child pointers like this.
+#[tactic(auto, using(crate::proofs::Growing::internal_small, crate::proofs::Growing::internal_no_size, crate::proofs::Growing::internal_is))]
+fn max_records_internal(geometry: Geometry, pointer: ChildPointer) -> u64
+    ensures { result ≡ internal_capacity geometry (pointer_size pointer) }
 {
-    let taken = NodeInfo::OVERHEAD as u64 + (pointer as u64);
+    let size = pointer.size();
+    let taken = NodeInfo::OVERHEAD as u64 + size;
     let room = geometry.node_size as u64;
     if room <= taken {
         return 0;
     }
-    let each = (geometry.record_size as u64) + (pointer as u64);
+    let each = (geometry.record_size as u64) + size;
     if each == 0 {
         return 0;
     }
     (room - taken) / each
 }
 
-// The entries of the level above one whose subtrees hold `under` records, where a child pointer's count and total have these sizes.
-pub fn level_above(geometry: Geometry, count_size: u8, total_size: u8, under: u64) -> Level
-    ensures { result ≡ next_level geometry (child_pointer_size geometry count_size total_size) under }
+// The entries of the level above one whose subtrees hold `under` records, with child pointers like this.
+#[tactic(auto, using(crate::proofs::Growing::one_more, crate::proofs::Growing::level_is))]
+pub fn level_above(geometry: Geometry, pointer: ChildPointer, under: u64) -> Level
+    ensures { result ≡ next_level geometry (pointer_size pointer) under }
 {
-    let pointer = (geometry.offset_size as u16) + (count_size as u16) + (total_size as u16);
-    let most = max_records_internal(geometry, pointer);
-    let all = numbers::saturating_add(numbers::saturating_mul(most + 1, under), most);
+    let max_nrec = max_records_internal(geometry, pointer);
+    let cum_max_nrec = (max_nrec + 1)
+        .saturating_mul(under)
+        .saturating_add(max_nrec);
     Level {
-        most,
-        all,
-        total: numbers::bytes_for_max_records(all),
+        max_nrec,
+        cum_max_nrec,
+        cum_max_nrec_size: numbers::bytes_for_max_records(cum_max_nrec),
     }
 }
 
@@ -95,61 +116,68 @@ impl NodeInfo {
     pub const LEVEL_LIMIT: u16 = 32;
 
     // The table of the leaf level alone, from which every table grows.
+    #[tactic(auto, using(crate::proofs::Growing::leaf_info))]
     pub fn leaf_only(geometry: Geometry) -> NodeInfo
         ensures { result ≡ info_at geometry 0 }
     {
-        let most = max_records_leaf(geometry);
-        let count_size = numbers::bytes_for_max_records(most);
-        let mut max_nrec = [0u64; 33];
-        max_nrec[0] = most;
-        let mut cum_max_nrec = [0u64; 33];
-        cum_max_nrec[0] = most;
-        NodeInfo {
-            max_nrec_size: count_size,
-            cum_max_nrec_size: [0u8; 33],
+        let max_nrec = max_records_leaf(geometry);
+        let mut levels = [Level::NONE; 33];
+        levels[0] = Level {
             max_nrec,
-            cum_max_nrec,
+            cum_max_nrec: max_nrec,
+            ..Level::NONE
+        };
+        NodeInfo {
+            max_nrec_size: numbers::bytes_for_max_records(max_nrec),
+            levels,
         }
     }
 
-    // The table of nothing: all zeros.
-    pub fn none() -> NodeInfo
-        ensures { result ≡ no_info }
+    // The pointer to a child of this level, in a file whose addresses have `offset_size` bytes.
+    pub fn pointer_to(&self, offset_size: u8, level: u16) -> ChildPointer
+        ensures { result ≡ pointer_in self.now offset_size level }
     {
-        NodeInfo {
-            max_nrec_size: 0,
-            cum_max_nrec_size: [0u8; 33],
-            max_nrec: [0u64; 33],
-            cum_max_nrec: [0u64; 33],
+        let total_size = if level <= NodeInfo::LEVEL_LIMIT {
+            self.levels[level as usize].cum_max_nrec_size
+        } else {
+            0
+        };
+        ChildPointer {
+            offset_size,
+            count_size: self.max_nrec_size,
+            total_size,
+        }
+    }
+
+    // Adds the level above this one, where the table has room for it.
+    #[tactic(auto, unfolding(crate::specs::Table::with_level_above))]
+    pub fn add_level_above(&mut self, geometry: Geometry, level: u16)
+        ensures { self.new ≡ with_level_above geometry level self.old }
+    {
+        if level < NodeInfo::LEVEL_LIMIT {
+            let pointer = self.pointer_to(geometry.offset_size, level);
+            let below = level as usize;
+            self.levels[below + 1] = level_above(
+                geometry,
+                pointer,
+                self.levels[below].cum_max_nrec,
+            );
         }
     }
 
     // The table of a tree of this depth.
-    pub fn compute(geometry: Geometry, depth: u16) -> NodeInfoAnswer
-        ensures { (table_answer result.verdict result.info ≡ tabled geometry depth) × (result.info ≡ pick (leb depth 32) (info_at geometry depth) no_info) }
+    #[tactic(auto, using(crate::proofs::Growing::info_more, crate::proofs::Growing::too_deep, crate::proofs::Growing::not_too_deep))]
+    pub fn compute(geometry: Geometry, depth: u16) -> Result<NodeInfo, Refusal>
+        ensures answer { table_answer result ≡ tabled geometry depth }
+        ensures table { IfOk result (λ info. info ≡ info_at geometry depth) }
     {
         if NodeInfo::LEVEL_LIMIT < depth {
-            return NodeInfoAnswer {
-                verdict: Verdict::Refused(Refusal::DepthAboveLimit(depth)),
-                info: NodeInfo::none(),
-            };
+            return Err(Refusal::DepthAboveLimit(depth));
         }
         let mut info = NodeInfo::leaf_only(geometry);
-        let count_size = info.max_nrec_size;
-        let mut u = 0;
-        while u < depth as usize {
-            let below = u;
-            u += 1;
-            let total = info.cum_max_nrec_size[below];
-            let under = info.cum_max_nrec[below];
-            let level = level_above(geometry, count_size, total, under);
-            info.cum_max_nrec_size[u] = level.total;
-            info.max_nrec[u] = level.most;
-            info.cum_max_nrec[u] = level.all;
+        for level in 0..depth {
+            info.add_level_above(geometry, level);
         }
-        NodeInfoAnswer {
-            verdict: Verdict::Accepted,
-            info,
-        }
+        Ok(info)
     }
 }

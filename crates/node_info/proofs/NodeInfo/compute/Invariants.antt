@@ -1,10 +1,7 @@
--- The loop of `compute` has the table of depth u.
-use Rattle.node_info.proofs.Growing.{Grown}
-use Prim.Native.Nat.{◌-◌, ◌≤◌}
+-- The loop of `compute` has the table of the level that it is at.
+use mathlib.Core.Path.{◌≡◌}
+use Rattle.node_info.specs.Table.{info_at}
 use Rattle.node_info.proofs.NodeInfo.compute.Given as goal
 
-abbrev pub invariant-loop-u : goal.invariant-loop-u
-invariant-loop-u l = (l.u ≤ l.depth) × Grown l.geometry l.count_size l.info l.u
-
-abbrev pub decreases-loop-u : goal.decreases-loop-u
-decreases-loop-u l = l.depth - l.u
+abbrev pub invariant-loop-level : goal.invariant-loop-level
+invariant-loop-level l = l.info ≡ info_at l.geometry l.level
