@@ -1,4 +1,5 @@
 -- Reading behind a block: the part from the base on, a block in front and base 0, and what the verdict on a base tells.
+use Rattle.std.specs.Prelude.{Result, Ok, Err, ⊤}
 use mathlib.Core.Path.{◌≡◌, refl, sym, ◌∙◌}
 use mathlib.Core.Bool.{Bool, true, false}
 use mathlib.Core.List.{List, [], ◌++◌}
@@ -12,8 +13,6 @@ use Rattle.numbers.specs.Numbers.{part}
 use Rattle.numbers.proofs.Lists.{part_rest}
 use Rattle.refusal.specs.Answer.{accepted, refused, refusal_of, or_else, verdict_of}
 use Rattle.refusal.specs.declared.Refusal.{Refusal}
-use Rattle.refusal.specs.declared.Verdict.{Verdict}
-use Rattle.refusal.specs.declared.Verdict.TheVariants.{Accepted, Refused}
 use Rattle.read_checks.specs.Base.{on_part, base_test}
 use Rattle.read_checks.proofs.Checks.{verdict_passed, verdict_failed, verdict_stopped}
 
@@ -59,12 +58,12 @@ unfolding on_part
 base_at_most file base h = rw (le-leb base (length file) h)
 
 -- What its verdict tells.
-module _ (file : List ℕ) (base : ℕ) (v : Verdict) (code : verdict_of v ≡ base_test file base) where
-  pub base_within : v ≡ Accepted → base ≤ length file
+module _ (file : List ℕ) (base : ℕ) (v : Result ⊤ Refusal) (code : verdict_of v ≡ base_test file base) where
+  pub base_within : v ≡ Ok tt → base ≤ length file
   unfolding on_part
   base_within e = leb-true base (length file) (verdict_passed v (leb base (length file)) 18 [] code e)
 
-  module _ (r : Refusal) (e : v ≡ Refused r) where
+  module _ (r : Refusal) (e : v ≡ Err r) where
     pub base_beyond : length file < base
     unfolding on_part
     base_beyond = leb-false base (length file) (verdict_failed v (leb base (length file)) 18 [] code r e)

@@ -1,4 +1,5 @@
 -- What the readers of leaves and of internal nodes share: the size of a node's records, and the tests of its front.
+use Rattle.std.specs.Prelude.{Result, Ok, Err, ⊤}
 use mathlib.Core.Path.{◌≡◌, sym, ap, ◌∙◌}
 use mathlib.Core.Bool.{Bool, true, false}
 use mathlib.Core.List.{List, []}
@@ -12,8 +13,6 @@ use borrow.Author.Tests.{le-leb}
 use Rattle.numbers.specs.Numbers.{part}
 use Rattle.refusal.specs.Answer.{accepted, refused, verdict_of}
 use Rattle.refusal.specs.declared.Refusal.{Refusal}
-use Rattle.refusal.specs.declared.Verdict.{Verdict}
-use Rattle.refusal.specs.declared.Verdict.TheVariants.{Accepted, Refused}
 use Rattle.read_checks.specs.Tests.{needs, same, front_test}
 use Rattle.read_checks.proofs.Checks.{bytes_missing}
 use Rattle.read_checks.proofs.Passing as passing
@@ -32,7 +31,7 @@ module _ (n k : ℕ) (h : n < 2 ^ 16) (l : k < 2 ^ 16) where
 
 -- `check_front`: its two tests.
 module _ (file signature : List ℕ) (a : ℕ) where
-  pub front_short : (prefix : Verdict) → verdict_of prefix ≡ needs (a + 6) (length file) (accepted []) → (q : Refusal) → prefix ≡ Refused q
+  pub front_short : (prefix : Result ⊤ Refusal) → verdict_of prefix ≡ needs (a + 6) (length file) (accepted []) → (q : Refusal) → prefix ≡ Err q
       → verdict_of prefix ≡ front_test file signature a
   unfolding front_test
   front_short prefix code q e = rw e (sym (bytes_missing (a + 6) (length file) prefix code q e _))
@@ -47,6 +46,6 @@ module _ (file signature : List ℕ) (a : ℕ) where
     front_wrong e h = rw (le-leb _ _ h, ← is, e)
 
 -- Where `check_front` accepts, the first 6 bytes of the node are there.
-module _ (file signature : List ℕ) (a : ℕ) (front : Verdict) (code : verdict_of front ≡ front_test file signature a) (begun : front ≡ Accepted) where
+module _ (file signature : List ℕ) (a : ℕ) (front : Result ⊤ Refusal) (code : verdict_of front ≡ front_test file signature a) (begun : front ≡ Ok tt) where
   pub front_there : a + 6 ≤ length file
   front_there = passing.front_there file signature a [] (sym code ∙ ap verdict_of begun)

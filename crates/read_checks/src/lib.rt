@@ -2,121 +2,99 @@
 
 #![tactic(auto)]
 
-ghost use Rattle.std.specs.Prelude.{◌≡◌, [], ◌∷◌, ◌+◌, ◌-◌, length};
+ghost use Rattle.std.specs.Prelude.{◌≡◌, ◌≤◌, ◌<◌, [], ◌+◌, length, drop, MatchResult};
+ghost use Rattle.refusal.specs.Answer.{accepted, verdict_of, answer_of};
 ghost use Rattle.numbers.specs.Numbers.{part};
-ghost use Rattle.refusal.specs.Answer.{accepted, verdict_of};
+ghost use Rattle.refusal.specs.declared.Refusal.TheVariants.{BaseBeyondFile};
 ghost use Rattle.read_checks.specs.Base.{base_test};
 ghost use Rattle.read_checks.specs.Tests.{needs, same, front_test, checksum_test, no_records, root_test};
 
 use node_info::NodeInfo;
-use refusal::{Refusal, Verdict};
+use refusal::Refusal;
 
-// Refusal 18 where the base is beyond the file's length.
-pub fn check_base(file: &[u8], base: u64) -> Verdict
-    ensures { verdict_of result ≡ base_test file.now base }
+// The part of the file from `base` on; refusal 18 where the base is beyond the file's length.
+#[tactic(auto, unfolding(crate::specs::Base::on_part))]
+pub fn part_from<'a>(file: &'a [u8], base: u64) -> Result<&'a [u8], Refusal>
+    ensures verdict { answer_of (λ part. []) result ≡ base_test file.now base }
+    ensures cases { MatchResult result (λ part. (base ≤ length file.now) × (part.now ≡ drop base file.now))
+        (λ cause. (length file.now < base) × (cause ≡ BaseBeyondFile)) }
 {
-    if (file.len() as u64) < base {
-        return Verdict::Refused(Refusal::BaseBeyondFile);
-    }
-    Verdict::Accepted
+    file.get(base as usize..).ok_or(Refusal::BaseBeyondFile)
 }
 
 // Refusal 1 where fewer than `count` bytes are there from `at` on.
-pub fn ensure_len(data: &[u8], at: u64, count: u64) -> Verdict
+pub fn ensure_len(data: &[u8], at: u64, count: u64) -> Result<(), Refusal>
     ensures { verdict_of result ≡ needs (at + count) (length «data».now) (accepted []) }
 {
     let available = data.len() as u64;
-    let expected = numbers::saturating_add(at, count);
+    let expected = at.saturating_add(count);
     if available < expected {
-        return Verdict::Refused(Refusal::UnexpectedEof {
+        return Err(Refusal::UnexpectedEof {
             expected,
             available,
         });
     }
-    Verdict::Accepted
+    Ok(())
 }
 
-// Whether four bytes are there at `at`, and are `BT` and these two letters.
-pub fn has_signature(data: &[u8], at: usize, third: u8, fourth: u8) -> bool
-    ensures { result ≡ same (part «data».now at 4) (66 ∷ 84 ∷ third ∷ fourth ∷ []) }
+// Whether four bytes are there at `at`, and are this signature.
+#[tactic(auto, using(crate::proofs::Checks::signature_none, crate::proofs::Checks::signature_starts))]
+pub fn has_signature(data: &[u8], at: usize, signature: &[u8; 4]) -> bool
+    ensures { result ≡ same (part «data».now at 4) signature.now }
 {
-    if data.len() < at {
+    let Some(rest) = data.get(at..) else {
         return false;
-    }
-    if data.len() - at < 4 {
-        return false;
-    }
-    if data[at] != b'B' {
-        return false;
-    }
-    if data[at + 1] != b'T' {
-        return false;
-    }
-    if data[at + 2] != third {
-        return false;
-    }
-    data[at + 3] == fourth
-}
-
-// The front of a node: its first 6 bytes are there, and its signature is `BT` and these two letters.
-pub fn check_front(file: &[u8], address: u64, third: u8, fourth: u8) -> Verdict
-    ensures { verdict_of result ≡ front_test file.now (66 ∷ 84 ∷ third ∷ fourth ∷ []) address }
-{
-    let prefix = ensure_len(file, address, format::PREFIX_SIZE);
-    let Verdict::Accepted = prefix else {
-        return prefix;
     };
-    if has_signature(file, address as usize, third, fourth) {
-        return Verdict::Accepted;
+    rest.starts_with(signature)
+}
+
+// The front of a node: its first 6 bytes are there, and it has this signature.
+#[tactic(auto, unfolding(crate::specs::Tests::front_test))]
+pub fn check_front(file: &[u8], address: u64, signature: &[u8; 4]) -> Result<(), Refusal>
+    ensures { verdict_of result ≡ front_test file.now signature.now address }
+{
+    ensure_len(file, address, format::PREFIX_SIZE)?;
+    if has_signature(file, address as usize, signature) {
+        return Ok(());
     }
-    Verdict::Refused(Refusal::InvalidBTreeV2Signature)
+    Err(Refusal::InvalidBTreeV2Signature)
 }
 
 // Refusal 6 where the number in the four bytes at `end` is not the checksum of the bytes from `from` to there; each is of as many bytes
 // as there are.
-pub fn check_checksum(data: &[u8], from: usize, end: usize) -> Verdict
+#[tactic(auto, using(crate::proofs::Checks::word_fits, crate::proofs::Checks::sums_differ, crate::proofs::Checks::sums_equal))]
+pub fn check_checksum(data: &[u8], from: usize, end: usize) -> Result<(), Refusal>
     ensures { verdict_of result ≡ checksum_test «data».now from end (accepted []) }
 {
     let stored = numbers::read_le(data, end, 4) as u32;
-    let computed = checksum::jenkins_lookup3(between(data, from, end));
+    let bytes = numbers::part(data, from as u64, end.saturating_sub(from) as u64);
+    let computed = checksum::jenkins_lookup3(bytes);
     if stored != computed {
-        return Verdict::Refused(Refusal::ChecksumMismatch {
+        return Err(Refusal::ChecksumMismatch {
             expected: stored,
             computed,
         });
     }
-    Verdict::Accepted
-}
-
-// The bytes from `from` to `end`, or as many as there are.
-fn between<'a>(data: &'a [u8], from: usize, end: usize) -> &'a [u8]
-    ensures { result.now ≡ part «data».now from (end - from) }
-{
-    if end < from {
-        return &data[0..0];
-    }
-    numbers::part(data, from as u64, (end - from) as u64)
+    Ok(())
 }
 
 // Whether a tree has no records by its header: none in all, or none in the root.
 pub fn is_empty(total_records: u64, root_records: u16) -> bool
     ensures { result ≡ no_records total_records root_records }
 {
-    if total_records == 0 {
-        return true;
-    }
-    root_records == 0
+    total_records == 0 || root_records == 0
 }
 
 // What is tested before the root: records have bytes, and the tree is not too deep.
-pub fn check_root(record_size: u16, depth: u16) -> Verdict
+#[tactic(auto, unfolding(crate::specs::Tests::root_test))]
+pub fn check_root(record_size: u16, depth: u16) -> Result<(), Refusal>
     ensures { verdict_of result ≡ root_test record_size depth }
 {
     if record_size == 0 {
-        return Verdict::Refused(Refusal::ZeroRecordSize);
+        return Err(Refusal::ZeroRecordSize);
     }
     if NodeInfo::LEVEL_LIMIT < depth {
-        return Verdict::Refused(Refusal::DepthAboveLimit(depth));
+        return Err(Refusal::DepthAboveLimit(depth));
     }
-    Verdict::Accepted
+    Ok(())
 }
