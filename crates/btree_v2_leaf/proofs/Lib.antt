@@ -1,4 +1,3 @@
 -- The laws of a leaf's tests, which serve the collector too.
 pub mod Checksums
-pub mod Leaves
 pub mod Records

@@ -1,11 +1,12 @@
-// Tests that the header reader, the leaf's look and the readers of a tree share.
+// What the header reader, the leaf's look and the readers of a tree share: their tests, and where a node's records are.
 
 #![tactic(auto)]
 
-ghost use Rattle.std.specs.Prelude.{◌≡◌, ◌≤◌, ◌<◌, [], ◌+◌, length, drop, MatchResult};
+ghost use Rattle.std.specs.Prelude.{◌≡◌, ◌≤◌, ◌<◌, [], ◌+◌, ◌*◌, ◌^◌, length, drop, MatchResult};
 ghost use Rattle.refusal.specs.Answer.{accepted, verdict_of, answer_of};
 ghost use Rattle.numbers.specs.Numbers.{part};
 ghost use Rattle.refusal.specs.declared.Refusal.TheVariants.{BaseBeyondFile};
+ghost use Rattle.format.specs.Bytes.{prefix_size, records_end};
 ghost use Rattle.read_checks.specs.Base.{base_test};
 ghost use Rattle.read_checks.specs.Tests.{needs, same, front_test, checksum_test, no_records, root_test};
 
@@ -97,4 +98,20 @@ pub fn check_root(record_size: u16, depth: u16) -> Result<(), Refusal>
         return Err(Refusal::DepthAboveLimit(depth));
     }
     Ok(())
+}
+
+// The place in a node where its records end.
+pub fn records_end(record_size: u16, records: u16) -> u64
+    ensures end { result ≡ records_end record_size records }
+    ensures small { result < 2 ^ 33 }
+{
+    format::PREFIX_SIZE + record_size as u64 * records as u64
+}
+
+// The bytes of a node's records, or as many as there are.
+pub fn records_of<'a>(file: &'a [u8], address: u64, record_size: u16, records: u16) -> &'a [u8]
+    ensures { result.now ≡ part file.now (address + prefix_size) (records * record_size) }
+{
+    let first = address.saturating_add(format::PREFIX_SIZE);
+    numbers::part(file, first, record_size as u64 * records as u64)
 }
