@@ -1,28 +1,27 @@
--- A number read from 8 bytes at once: bytes joined, and the low ones of them.
+-- A number read from 8 bytes at once: the bytes, and the low ones of them.
 use mathlib.Core.Path.{◌≡◌, refl, sym, ◌∙◌}
 use mathlib.Core.Logic.{⊎_elim}
-use mathlib.Core.List.{List, [], ◌∷◌, ◌++◌}
-use Prim.Native.Nat.{ℕ, zero, suc, ◌+◌, ◌-◌, ◌*◌, ◌/◌, ◌%◌, ◌^◌, ◌≤◌, ◌<◌, min}
-use native.Mathlib.Nat.{add-zero, mul-zero, le_of_lt, min-eq_left, min-eq_right, mod-eq_of_lt, mod-one, add-mul-mod_self_left}
+use mathlib.Core.List.{List}
+use Prim.Native.Nat.{ℕ, ◌+◌, ◌-◌, ◌*◌, ◌/◌, ◌%◌, ◌^◌, ◌≤◌, ◌<◌, min}
+use native.Mathlib.Nat.{add-zero, mul_comm, add_comm, mod-eq_of_lt, mod-one, add-mul-mod_self_left}
 use native.Mathlib.Omega.{arith}
 use lib.Dec.{leb}
 use lib.Pow.{shl-shr, field}
-use lib.ListN.{length, get_or, drop, replicate, length-append, length-drop}
-use lib.Seq.{take_all, get_or-drop}
-use borrow.Author.Tests.{le-leb, lt-leb}
+use lib.ListN.{length, get_or}
+use borrow.Author.Tests.{le-leb}
+use Rattle.std.specs.Array.{IsFirstChunk}
+use Rattle.std.specs.Int.{from_le_bytes}
+use mir.Syntax.{w64}
+use Rattle.std.proofs.lemmas.Nat.{div-mul-add}
 use Rattle.numbers.specs.Numbers.{pick, unle, part, num, saturated}
-use Rattle.numbers.specs.Places.{put}
-use Rattle.numbers.proofs.Lists.{part_cons, part_rest, part_part, put_fits, stored_is}
-use Rattle.numbers.proofs.Numbers.{lt_or_le, unle_append, num_add, num_lt, pow_256}
+use Rattle.numbers.proofs.Lists.{length_part, part_cons, part_part, part_rest}
+use Rattle.numbers.proofs.Numbers.{lt_or_le, num_add, num_lt, pow_256}
 use Rattle.numbers.proofs.Copying.{num_saturated}
-use Rattle.field.specs.declared.Field.{Field}
 
--- `join`: 8 bytes.
-pub num_8 : (l : List ℕ) (a b c d e f g h : ℕ) → 8 ≤ length l → a ≡ get_or l 0 0 → b ≡ get_or l 1 0 → c ≡ get_or l 2 0 → d ≡ get_or l 3 0
-    → e ≡ get_or l 4 0 → f ≡ get_or l 5 0 → g ≡ get_or l 6 0 → h ≡ get_or l 7 0
-    → a + 256 * b + 256 ^ 2 * c + 256 ^ 3 * d + 256 ^ 4 * e + 256 ^ 5 * f + 256 ^ 6 * g + 256 ^ 7 * h ≡ num l 0 8
+-- `read_eight`: the number in 8 bytes is their sum, each times its worth.
+sum_8 : (l : List ℕ) → 8 ≤ length l → from_le_bytes w64 l ≡ num l 0 8
 unfolding num unle
-num_8 l a b c d e f g h there a0 b1 c2 d3 e4 f5 g6 h7 =
+sum_8 l there =
     rw (
       part_cons l 0 7 0 (omega arith),
       part_cons l 1 6 0 (omega arith),
@@ -35,49 +34,25 @@ num_8 l a b c d e f g h there a0 b1 c2 d3 e4 f5 g6 h7 =
     )
     (omega arith)
 
--- `read_eight`: too few bytes, or 8.
-module _ (l : List ℕ) where
-  pub eight_short : length l < 8 → 0 ≡ pick (leb 8 (length l)) (num l 0 8) 0
-  eight_short h = rw (lt-leb 8 (length l) h)
-
-  pub eight_there : (x : ℕ) → 8 ≤ length l → x ≡ num l 0 8 → x ≡ pick (leb 8 (length l)) (num l 0 8) 0
-  eight_there x h e = rw (le-leb 8 (length l) h) e
-
--- `read_u64`: fewer than 8 bytes, with zeros behind them.
-unle_none : (l : List ℕ) → ((i : ℕ) → get_or l i 0 ≡ 0) → unle l ≡ 0
-unfolding unle
-unle_none [] h = refl
-unle_none (x ∷ xs) h = rw (h 0, unle_none xs (λ i. h (suc i)))
-
-zeros_none : (k i : ℕ) → get_or {A = ℕ} (replicate k 0) i 0 ≡ 0
-zeros_none zero i = refl
-zeros_none (suc k) zero = refl
-zeros_none (suc k) (suc i) = zeros_none k i
-
-pub num_padded : (d : List ℕ) → length d < 8 → (e : List ℕ) → e ≡ put (replicate 8 0) 0 d → (r : ℕ) → r ≡ num e 0 8 → r ≡ num d 0 8
+pub eight_there : (l y : List ℕ) → IsFirstChunk l y 8 → from_le_bytes w64 y ≡ pick (leb 8 (length l)) (num l 0 8) 0
 unfolding num
-num_padded d short e padded r is =
-    let zeros : List ℕ = drop (0 + length d) (replicate 8 0) in
-    let whole : e ≡ d ++ zeros = padded ∙ put_fits (replicate 8 0) 0 d (omega arith) ∙ stored_is (replicate 8 0) 0 d in
-    let all : length (d ++ zeros) ≤ 8 = simp (length-append, length-drop) (omega arith) in
-    let none : unle zeros ≡ 0 = unle_none zeros (λ i. rw get_or-drop (zeros_none 8 (0 + length d + i))) in
-    rw (is, whole, take_all 8 (d ++ zeros) all, unle_append, none, mul-zero, add-zero, take_all 8 d (le_of_lt short))
+eight_there l y first =
+    let long : 8 ≤ length y = rw first.same (omega (arith, length_part l 0 8 first.enough)) in
+    let whole : part y 0 8 ≡ part l 0 8 = rw first.same (part_part l 0 8 0 8 (omega arith)) in
+    rw (le-leb 8 (length l) first.enough, sum_8 y long, whole)
 
--- `low_bytes`: all of x, nothing, or x without the bits above.
+-- `low_bytes`: nothing, or x without the bits above.
 module _ (x w : ℕ) where
-  pub low_all : 8 ≤ w → x < 2 ^ 64 → x ≡ x % 256 ^ min w 8
-  low_all h fits = rw (min-eq_right h) (sym (mod-eq_of_lt fits))
-
   pub low_none : w ≡ 0 → 0 ≡ x % 256 ^ min w 8
   low_none e = rw e (sym (mod-one x))
 
-  pub low_some : w < 8 → x * 2 ^ (64 - 8 * w) % 2 ^ 64 / 2 ^ (64 - 8 * w) ≡ x % 256 ^ min w 8
-  low_some h =
-      let all : 8 * w + (64 - 8 * w) ≡ 64 = omega arith in
-      rw (min-eq_left (le_of_lt h), pow_256) (rw (all, shl-shr) at (field (x * 2 ^ (64 - 8 * w)) (8 * w) (64 - 8 * w)))
+  pub low_some : (m : ℕ) → m ≡ min w 8 → x * 2 ^ (8 * (8 - m)) % 2 ^ 64 / 2 ^ (8 * (8 - m)) ≡ x % 256 ^ min w 8
+  low_some m e =
+      let all : 8 * m + 8 * (8 - m) ≡ 64 = omega arith in
+      rw (← e, pow_256) (rw (all, shl-shr) at (field (x * 2 ^ (8 * (8 - m))) (8 * m) (8 * (8 - m))))
 
 -- The number in the first m of m + v bytes.
-pub num_low : (l : List ℕ) (p m v : ℕ) → ((i : ℕ) → get_or l i 0 < 256) → num l p (m + v) % 256 ^ m ≡ num l p m
+num_low : (l : List ℕ) (p m v : ℕ) → ((i : ℕ) → get_or l i 0 < 256) → num l p (m + v) % 256 ^ m ≡ num l p m
 unfolding num
 num_low l p m v bytes =
     ⊎_elim
@@ -91,14 +66,39 @@ num_low l p m v bytes =
     below : num l p m % 256 ^ m ≡ num l p m
     below = mod-eq_of_lt (num_lt l p m bytes)
 
--- `read_number`: the low bytes of those at the place, which is saturated.
-pub number_read : (d : List ℕ) (f : Field) (p at : ℕ) → at ≡ saturated (p + f.start) → length d < 2 ^ 64 → ((i : ℕ) → get_or d i 0 < 256)
-    → (rest : List ℕ) → rest ≡ part d at 8 → (x r : ℕ) → x ≡ num rest 0 8 → r ≡ x % 256 ^ min f.width 8
-    → r ≡ num d (p + f.start) (min f.width 8)
-unfolding num
-number_read d f p at e small bytes rest is x r whole low =
-    let w = min f.width 8 in
-    let all : w + (8 - w) ≡ 8 = omega arith in
-    let there : num rest 0 8 ≡ num d at 8 = rw (is, part_part d at 8 0 8 (omega arith), add-zero) in
-    let some : num d at w ≡ num d (p + f.start) w = rw e (num_saturated d (p + f.start) w small) in
-    rw (low, whole, there) (rw all at (num_low d at w (8 - w) bytes) ∙ some)
+-- `read_number`, at the place, which is saturated.
+module _ (d : List ℕ) (p at w : ℕ) (place : at ≡ saturated p) (small : length d < 2 ^ 64) where
+  -- Of the last bytes of fewer than 8.
+  pub number_short : (r : ℕ) → r ≡ num d at (min w 8) → r ≡ num d p (min w 8)
+  number_short r e = rw (e, place, num_saturated)
+
+  -- Of 8 bytes, from the place on or the last.
+  pub number_of_eight : ((i : ℕ) → get_or d i 0 < 256) → 8 ≤ length d → at < length d → (first : ℕ) → first ≡ min at (length d - 8)
+      → (rest : List ℕ) → rest ≡ part d first (length d - first) → (x : ℕ) → x ≡ pick (leb 8 (length rest)) (num rest 0 8) 0
+      → (r : ℕ) → r ≡ x / 2 ^ (8 * (at - first)) % 256 ^ min w 8 → r ≡ num d p (min w 8)
+  unfolding num
+  number_of_eight bytes eight there first is rest lent x read r low =
+      let m = min w 8 in
+      let over = at - first in
+      let left = 8 - over in
+      let eights : over + left ≡ 8 = omega arith in
+      let on : first + over ≡ at = omega arith in
+      let inside : first + 8 ≤ length d = omega arith in
+      let whole : part rest 0 8 ≡ part d first 8 = rw lent (rw add-zero at (part_part d first (length d - first) 0 8 (omega arith))) in
+      let long : 8 ≤ length rest = rw lent (omega (arith, length_part d first (length d - first) (omega arith))) in
+      let x_is : x ≡ num d first 8 = rw (le-leb 8 (length rest) long, whole) at read in
+      let split : num d first 8 ≡ num d at left * 256 ^ over + num d first over =
+      rw (eights, on) at (num_add d first over left (omega arith))
+      ∙ rw (mul_comm (256 ^ over) (num d at left)) (add_comm (num d first over) (num d at left * 256 ^ over))
+      in
+      let shifted : x / 2 ^ (8 * over) ≡ num d at left =
+      rw (x_is, split, ← pow_256 over) (div-mul-add (num d at left) (256 ^ over) (num d first over) (num_lt d first over bytes))
+      in
+      let rest_is : num d at left ≡ num d at 8 =
+      ⊎_elim
+      (λ (h : length d - 8 < at). rw (part_rest d at left (omega arith), part_rest d at 8 (omega arith)) refl)
+      (λ (h : at ≤ length d - 8). let e : left ≡ 8 = omega arith in rw e refl)
+      (lt_or_le (length d - 8) at)
+      in
+      let some : m + (8 - m) ≡ 8 = omega arith in
+      rw (low, shifted, rest_is) (rw some at (num_low d at m (8 - m) bytes) ∙ number_short (num d at m) refl)
