@@ -11,7 +11,7 @@ use Rattle.numbers.specs.Places.{over}
 use Rattle.refusal.specs.Answer.{Answer, accepted, refused, or_else}
 use Rattle.btree_v2_record.specs.Records.{RecordField, field_table, is_in, fields_in, record_length, record_bytes, value_in, values_in, values_fit, record_read, record_written, record_output}
 use Rattle.btree_v2_record.specs.Inverse.{Inverse, named, width_in}
-use Rattle.btree_v2_record.proofs.Values.{NamesEach, table_each_once, read_written, written_read, length_bytes}
+use Rattle.btree_v2_record.proofs.Values.{NamesEach, table_each_once, value_at, read_written, written_read, length_bytes}
 use Rattle.btree_v2_record.proofs.Widths.{lacking_reads_0, named_small, fits_exactly}
 
 -- What a test before an accepted answer shows.
@@ -90,15 +90,6 @@ values_back fs v each fit four = rw (at 0 (omega arith), at 1 (omega arith), at 
   where
     at : (m : ℕ) → m < 4 → value_in fs (record_bytes fs v) m ≡ get_or v m 0
     at m h = rw append-nil at (read_written fs v [] m fit (each.all m h))
-
--- The value at the place of a meaning.
-value_at : (fs : List RecordField) (b : List ℕ) (m : ℕ) → m < 4 → get_or (values_in fs b) m 0 ≡ value_in fs b m
-unfolding values_in
-value_at fs b zero h = refl
-value_at fs b (suc zero) h = refl
-value_at fs b (suc (suc zero)) h = refl
-value_at fs b (suc (suc (suc zero))) h = refl
-value_at fs b (suc (suc (suc (suc m)))) h = absurd (omega arith)
 
 -- What was written is read back, and what was read is written back.
 read_back : (t : ℕ) (values out : List ℕ) (n : ℕ) → length values ≡ 4 → record_written t values out ≡ accepted (n ∷ [])

@@ -7,6 +7,7 @@ use mathlib.Core.List.{List, [], ◌∷◌, ◌++◌, append_assoc}
 use Prim.Native.Nat.{ℕ, zero, suc, ◌+◌, ◌^◌, ◌≤◌, ◌<◌}
 use native.Mathlib.Omega.{arith}
 use lib.Dec.{ltb, eqb, lit<}
+use Rattle.std.proofs.lemmas.List.{ext_get_or}
 use lib.ListN.{length, get_or, set, take, drop, replicate, length-set, length-drop, length-append, length-take, take-append-drop, get_or-eq_default}
 use lib.Seq.{get_or-set_same, get_or-set_other, get_or-drop, get_or-take, take_at, drop_at, length-take-le}
 use borrow.Author.Tests.{ltb-true, lt-ltb, eqb-true, eqb-false, eq-eqb, not-true}
@@ -15,7 +16,7 @@ use Rattle.numbers.proofs.Numbers.{le_length, le_unle, unle_le, unle_lt, lt_or_l
 use Rattle.btree_v2_record.specs.Records.{RecordField, field_table, is_in, fields_in, record_length, record_bytes, value_in, values_in, values_fit}
 use Rattle.btree_v2_record.specs.Inverse.{named, once, among_four, each_once}
 use Rattle.btree_v2_record.specs.Steps.{filled}
-use Rattle.btree_v2_record.proofs.Table.{and-true, every, fields_pass}
+use Rattle.btree_v2_record.proofs.Table.{and-true, fields_pass}
 
 -- What fields have that name each of the four meanings once.
 pub record NamesEach (fs : List RecordField) : Type 0 where
@@ -42,7 +43,7 @@ each_once_lem fs e =
 
 -- The test over the whole table, and what it shows of each type that is in it.
 pub table_each_once : (t : ℕ) → is_in field_table t ≡ true → NamesEach (fields_in field_table t)
-unfolding every each_once once among_four named
+unfolding each_once once among_four named
 table_each_once t known = each_once_lem (fields_in field_table t) (fields_pass each_once field_table t refl known)
 
 -- The values that are put at their places are those of the fields; the others stay.
@@ -73,14 +74,28 @@ filled_at (f ∷ fs) b v m o s l =
     filled_more f fs b v m (eqb m f.meaning) refl (not-true _ twice.0) (omega arith) _ _
     (filled_at fs (drop f.width b) (next f fs b v m) m twice.1 small.1 (rw length-set l))
 
--- `read_fields` from four zeros: the four values.
-pub values_read : (fs : List RecordField) (b v : List ℕ) → NamesEach fs → v ≡ filled fs b (replicate 4 0)
-    → get_or v 0 0 ∷ get_or v 1 0 ∷ get_or v 2 0 ∷ get_or v 3 0 ∷ [] ≡ values_in fs b
+-- From four zeros: the four values.
+filled_long : (fs : List RecordField) (b v : List ℕ) → length (filled fs b v) ≡ length v
+unfolding filled
+filled_long [] b v = refl
+filled_long (f ∷ fs) b v = rw (filled_long fs, length-set)
+
+-- The value at the place of each meaning.
+pub value_at : (fs : List RecordField) (bytes : List ℕ) (m : ℕ) → m < 4 → get_or (values_in fs bytes) m 0 ≡ value_in fs bytes m
 unfolding values_in
-values_read fs b v each e = rw (at 0 (omega arith), at 1 (omega arith), at 2 (omega arith), at 3 (omega arith))
-  where
-    at : (m : ℕ) → m < 4 → get_or v m 0 ≡ value_in fs b m
-    at m h = rw (e, filled_at fs b (replicate 4 0) m each.none_twice each.four refl, each.all m h)
+value_at fs bytes zero h = refl
+value_at fs bytes (suc zero) h = refl
+value_at fs bytes (suc (suc zero)) h = refl
+value_at fs bytes (suc (suc (suc zero))) h = refl
+value_at fs bytes (suc (suc (suc (suc m)))) h = absurd (omega arith)
+
+pub filled_values : (fs : List RecordField) (b : List ℕ) → NamesEach fs → filled fs b (replicate 4 0) ≡ values_in fs b
+unfolding values_in
+filled_values fs b each =
+    ext_get_or 0 _ _ (filled_long fs b (replicate 4 0))
+    (λ m h.
+    let small : m < 4 = rw (filled_long fs b (replicate 4 0)) at h in
+    rw (filled_at fs b (replicate 4 0) m each.none_twice each.four refl, each.all m small, value_at fs b m small))
 
 -- What was written is read back: of every meaning that a field has its value, whatever follows the record.
 module _ (f : RecordField) (v more : List ℕ) where

@@ -1,20 +1,24 @@
-// Records by their meaning: the values of a record of type 5, 6, 8 or 9 read, and a record written from its values. The types and their fields
-// are a table; each loop goes over the fields of one type.
+// Records by their meaning: the values of a record of type 5, 6, 8 or 9 read, and a record written from its values.
 
 #![tactic(auto)]
 
-ghost use Rattle.std.specs.Prelude.{◌≡◌, ◌+◌, ◌-◌, ◌^◌, ◌≤◌, ◌<◌, ltb, length, replicate, set};
-ghost use Rattle.numbers.specs.Numbers.{pick, part, num};
+mod layout;
+mod tree_type;
+
+ghost use Rattle.std.specs.Prelude.{◌≡◌, ◌≤◌, length, get_or, set};
 ghost use Rattle.numbers.specs.Places.{stored};
 ghost use Rattle.refusal.specs.Answer.{put_answer_of};
-ghost use Rattle.btree_v2_record.specs.Records.{field_table, record_length, record_bytes, values_fit, record_read, record_written, record_output};
+ghost use Rattle.btree_v2_record.specs.Records.{record_length, record_bytes, values_fit, record_read, record_written, record_output};
 ghost use Rattle.btree_v2_record.specs.Answers.{values_of, values_answer_of};
-ghost use Rattle.btree_v2_record.specs.Steps.{all_fields, field_at, Meanings, Widths, filled, FirstField};
+ghost use Rattle.btree_v2_record.specs.Steps.{place_of, fields_of, fields_read, fields_written, fields_output};
 
-use refusal::{PutAnswer, Refusal};
+use layout::{Field, Meaning};
+use refusal::Refusal;
+pub use tree_type::TreeType;
+use tree_type::TreeType::{AttributeCreationOrder, AttributeName, GroupCreationOrder, GroupName};
 
 // The values of a record; 0 where its type lacks the field.
-#[derive(Clone, Copy)]
+#[derive(Clone, Copy, Debug, Default, PartialEq, Eq)]
 pub struct RecordValues {
     pub name_hash: u64,
     pub heap_id: u64,
@@ -22,212 +26,136 @@ pub struct RecordValues {
     pub creation_order: u64,
 }
 
-#[derive(Clone, Copy)]
-pub enum ValuesAnswer {
-    Read(RecordValues),
-    Refused(Refusal),
+impl RecordValues {
+    // The value with this meaning.
+    #[inline(always)]
+    fn get(&self, meaning: Meaning) -> u64
+        ensures { result ≡ get_or (values_of self.now) (place_of meaning) 0 }
+    {
+        match meaning {
+            Meaning::NameHash => self.name_hash,
+            Meaning::HeapId => self.heap_id,
+            Meaning::MessageFlags => self.message_flags,
+            Meaning::CreationOrder => self.creation_order,
+        }
+    }
+
+    // These values, with x for the one with this meaning.
+    #[inline(always)]
+    fn with(mut self, meaning: Meaning, x: u64) -> RecordValues
+        ensures { values_of result ≡ set (values_of self) (place_of meaning) x }
+    {
+        match meaning {
+            Meaning::NameHash => self.name_hash = x,
+            Meaning::HeapId => self.heap_id = x,
+            Meaning::MessageFlags => self.message_flags = x,
+            Meaning::CreationOrder => self.creation_order = x,
+        }
+        self
+    }
 }
 
-// The table: four fields for each of the types 5, 6, 8 and 9, in the record's own order, and behind them those that the type lacks. A field's
-// meaning is the place of its value: 0 name hash, 1 heap id, 2 message flags, 3 creation order.
-const MEANINGS: [u8; 16] = [0, 1, 2, 3, 3, 1, 0, 2, 1, 2, 3, 0, 1, 2, 3, 0];
-
-const WIDTHS: [u8; 16] = [4, 7, 0, 0, 8, 7, 0, 0, 8, 1, 4, 4, 8, 1, 4, 0];
-
-// The place of a type's first field in the table, 16 where it is not there.
-fn first_field(tree_type: u8) -> usize
-    ensures { FirstField tree_type result }
-{
-    if tree_type == 5 {
-        return 0;
-    }
-    if tree_type == 6 {
-        return 4;
-    }
-    if tree_type == 8 {
-        return 8;
-    }
-    if tree_type == 9 {
-        return 12;
-    }
-    16
-}
-
-// The meaning of a field, and its width. The columns are lent, since a `const` array is made anew wherever it is named.
-fn meaning_of(meanings: &[u8; 16], field: usize) -> usize
-    requires { Meanings meanings.now × (field < 16) }
-    ensures { (result ≡ (field_at field).meaning) × (result < 4) }
-{
-    meanings[field] as usize
-}
-
-fn width_of(widths: &[u8; 16], field: usize) -> usize
-    requires { Widths widths.now × (field < 16) }
-    ensures { (result ≡ (field_at field).width) × (result ≤ 8) }
-{
-    widths[field] as usize
-}
-
-// The length of a record with the four fields from `first` on.
-fn length_of(widths: &[u8; 16], first: usize) -> usize
-    requires { Widths widths.now × (first + 4 ≤ 16) }
-    ensures { result ≡ record_length (part (all_fields field_table) first 4) }
+// The length of a record with these fields.
+#[tactic(auto, using(crate::proofs::Fields::length_left), unfolding(crate::specs::Records::record_length))]
+#[inline(always)]
+fn length_of(fields: &[Field; 4]) -> usize
+    ensures { result ≡ record_length (fields_of fields.now) }
 {
     let mut length = 0;
-    let mut i = 0;
-    while i < 4 {
-        length += width_of(widths, first + i);
-        i += 1;
+    for field in fields {
+        length += field.width;
     }
     length
 }
 
-// The number in the `width` bytes before `end`: the last of the 8 bytes that end there, or, where fewer do, some of the first 8.
-fn number_before(record: &[u8], end: usize, width: usize) -> u64
-    requires { (8 ≤ length «record».now) × (end ≤ length «record».now) × (width ≤ end) × (width ≤ 8) }
-    ensures { result ≡ num «record».now (end - width) width }
-{
-    if width == 0 {
-        return 0;
-    }
-    if 8 <= end {
-        return field::read_eight(&record[end - 8..]) >> (8 * (8 - width));
-    }
-    (field::read_eight(record) << (8 * (8 - end))) >> (8 * (8 - width))
-}
-
-// a where t holds, else b.
-fn one_of(t: bool, a: u64, b: u64) -> u64
-    ensures { result ≡ pick t a b }
-{
-    if t { a } else { b }
-}
-
-impl RecordValues {
-    // These values, with x for the one of this meaning.
-    fn with(self, meaning: usize, x: u64) -> RecordValues
-        requires { meaning < 4 }
-        ensures { values_of result ≡ set (values_of self) meaning x }
-    {
-        RecordValues {
-            name_hash: one_of(meaning == 0, x, self.name_hash),
-            heap_id: one_of(meaning == 1, x, self.heap_id),
-            message_flags: one_of(meaning == 2, x, self.message_flags),
-            creation_order: one_of(meaning == 3, x, self.creation_order),
-        }
-    }
-}
-
 // The values in a record with these fields.
-fn read_fields(meanings: &[u8; 16], widths: &[u8; 16], first: usize, record: &[u8]) -> RecordValues
-    requires { Meanings meanings.now × Widths widths.now × (first + 4 ≤ 16) × (length «record».now ≡ record_length (part (all_fields field_table) first 4)) × (8 ≤ length «record».now) }
-    ensures { values_of result ≡ filled (part (all_fields field_table) first 4) «record».now (replicate 4 0) }
+#[tactic(auto, using(crate::proofs::Fields::length_left, crate::proofs::Fields::filled_left), unfolding(crate::specs::Steps::fields_read, crate::specs::Steps::filled, crate::specs::Records::record_length))]
+#[inline(always)]
+fn read_fields(fields: &[Field; 4], record: &[u8]) -> Result<RecordValues, Refusal>
+    ensures { values_answer_of result ≡ fields_read (fields_of fields.now) «record».now }
 {
-    let mut values = RecordValues {
-        name_hash: 0,
-        heap_id: 0,
-        message_flags: 0,
-        creation_order: 0,
-    };
-    let mut end = 0;
-    let mut i = 0;
-    while i < 4 {
-        let meaning = meaning_of(meanings, first + i);
-        let width = width_of(widths, first + i);
-        end += width;
-        values = values.with(meaning, number_before(record, end, width));
-        i += 1;
+    if record.len() != length_of(fields) {
+        return Err(Refusal::RecordTypeMismatch);
     }
-    values
-}
-
-// Whether a value is below 256 to the power of the width.
-fn fits(value: u64, width: usize) -> bool
-    requires { width ≤ 8 }
-    ensures { result ≡ ltb value (256 ^ width) }
-{
-    if width == 8 {
-        return true;
+    let mut values = RecordValues::default();
+    let mut at = 0;
+    for field in fields {
+        values = values.with(field.meaning, numbers::read_le(record, at, field.width));
+        at += field.width;
     }
-    (value >> (8 * width)) == 0
+    Ok(values)
 }
 
 // Whether every value is small enough for its field.
-fn all_fit(meanings: &[u8; 16], widths: &[u8; 16], first: usize, values: &[u64; 4]) -> bool
-    requires { Meanings meanings.now × Widths widths.now × (first + 4 ≤ 16) }
-    ensures { result ≡ values_fit (part (all_fields field_table) first 4) values.now }
+#[inline(always)]
+fn all_fit(fields: &[Field; 4], values: &RecordValues) -> bool
+    ensures { result ≡ values_fit (fields_of fields.now) (values_of values.now) }
 {
-    let mut i = 0;
-    while i < 4 {
-        let meaning = meaning_of(meanings, first + i);
-        if !fits(values[meaning], width_of(widths, first + i)) {
-            return false;
-        }
-        i += 1;
-    }
-    true
+    fields
+        .iter()
+        .all(|field| field.fits(values.get(field.meaning)))
 }
 
 // Puts the record with these fields and values at the front of the output.
-fn put_fields(
-    meanings: &[u8; 16],
-    widths: &[u8; 16],
-    first: usize,
-    values: &[u64; 4],
-    output: &mut [u8],
-)
-    requires { Meanings meanings.now × Widths widths.now × (first + 4 ≤ 16) × (record_length (part (all_fields field_table) first 4) ≤ length output.old) }
-    ensures { output.new ≡ stored output.old 0 (record_bytes (part (all_fields field_table) first 4) values.now) }
+#[tactic(auto, using(crate::proofs::Fields::length_left, crate::proofs::Fields::put_left, crate::proofs::Fields::put_all), unfolding(crate::specs::Records::record_bytes, crate::specs::Records::record_length))]
+#[inline(always)]
+fn put_fields(fields: &[Field; 4], values: &RecordValues, output: &mut [u8])
+    requires { record_length (fields_of fields.now) ≤ length output.old }
+    ensures { output.new ≡ stored output.old 0 (record_bytes (fields_of fields.now) (values_of values.now)) }
 {
     let mut at = 0;
-    let mut i = 0;
-    while i < 4 {
-        let meaning = meaning_of(meanings, first + i);
-        at = numbers::write_le(output, at, values[meaning], width_of(widths, first + i));
-        i += 1;
+    for field in fields {
+        at = numbers::write_le(output, at, values.get(field.meaning), field.width);
     }
 }
 
+// The record with these fields and values, put at the front of the output where all is well.
+#[tactic(auto, using(numbers::proofs::Copying::over_stored), unfolding(crate::specs::Steps::fields_written, crate::specs::Steps::fields_output))]
+#[inline(always)]
+fn write_fields(
+    fields: &[Field; 4],
+    values: &RecordValues,
+    output: &mut [u8],
+) -> Result<u64, Refusal>
+    ensures answered { put_answer_of result ≡ fields_written (fields_of fields.now) (values_of values.now) output.old }
+    ensures output_left { output.new ≡ fields_output (fields_of fields.now) (values_of values.now) output.old }
+{
+    if !all_fit(fields, values) {
+        return Err(Refusal::RecordTypeMismatch);
+    }
+    let length = length_of(fields);
+    if output.len() < length {
+        return Err(Refusal::OutputTooShort(output.len() as u64));
+    }
+    put_fields(fields, values, output);
+    Ok(length as u64)
+}
+
+// Both calls have an arm for each type: in it the fields are known, and the loops over them become a load or a store for each.
+
 // The values of a record of a type.
-pub fn read_record(tree_type: u8, record: &[u8]) -> ValuesAnswer
+#[tactic(auto, using(crate::proofs::Calls::read_in), unfolding(crate::specs::Records::record_read))]
+pub fn read_record(tree_type: u8, record: &[u8]) -> Result<RecordValues, Refusal>
     ensures { values_answer_of result ≡ record_read tree_type «record».now }
 {
-    let first = first_field(tree_type);
-    if 16 <= first {
-        return ValuesAnswer::Refused(Refusal::UnknownRecordType);
+    match TreeType::try_from(tree_type)? {
+        GroupName => read_fields(&GroupName.fields(), record),
+        GroupCreationOrder => read_fields(&GroupCreationOrder.fields(), record),
+        AttributeName => read_fields(&AttributeName.fields(), record),
+        AttributeCreationOrder => read_fields(&AttributeCreationOrder.fields(), record),
     }
-    let widths = WIDTHS;
-    if record.len() != length_of(&widths, first) {
-        return ValuesAnswer::Refused(Refusal::RecordTypeMismatch);
-    }
-    let meanings = MEANINGS;
-    ValuesAnswer::Read(read_fields(&meanings, &widths, first, record))
 }
 
 // A record of a type with these values, put at the front of the output.
-pub fn write_record(tree_type: u8, values: RecordValues, output: &mut [u8]) -> PutAnswer
+#[tactic(auto, using(crate::proofs::Calls::written_in, crate::proofs::Calls::output_in), unfolding(crate::specs::Records::record_written, crate::specs::Records::record_output))]
+pub fn write_record(tree_type: u8, values: RecordValues, output: &mut [u8]) -> Result<u64, Refusal>
     ensures answered { put_answer_of result ≡ record_written tree_type (values_of values) output.old }
     ensures output_left { output.new ≡ record_output tree_type (values_of values) output.old }
 {
-    let first = first_field(tree_type);
-    if 16 <= first {
-        return PutAnswer::Refused(Refusal::UnknownRecordType);
+    match TreeType::try_from(tree_type)? {
+        GroupName => write_fields(&GroupName.fields(), &values, output),
+        GroupCreationOrder => write_fields(&GroupCreationOrder.fields(), &values, output),
+        AttributeName => write_fields(&AttributeName.fields(), &values, output),
+        AttributeCreationOrder => write_fields(&AttributeCreationOrder.fields(), &values, output),
     }
-    let list = [
-        values.name_hash,
-        values.heap_id,
-        values.message_flags,
-        values.creation_order,
-    ];
-    let meanings = MEANINGS;
-    let widths = WIDTHS;
-    if !all_fit(&meanings, &widths, first, &list) {
-        return PutAnswer::Refused(Refusal::RecordTypeMismatch);
-    }
-    let length = length_of(&widths, first);
-    if output.len() < length {
-        return PutAnswer::Refused(Refusal::OutputTooShort(output.len() as u64));
-    }
-    put_fields(&meanings, &widths, first, &list, output);
-    PutAnswer::Put(length as u64)
 }

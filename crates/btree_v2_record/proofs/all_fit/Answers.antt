@@ -1,17 +1,17 @@
--- The loop of `all_fit`: the values of i fields fit.
-use Rattle.btree_v2_record.proofs.Loops.{fitting_start, fitting_not, fitting_turn, fitting_end}
+-- `all_fit`: what the iterator tests of each field.
+use Rattle.std.proofs.Common.{ltb, ◌^◌, get_or, rules, tests, sym, ◌∙◌}
+use Rattle.std.proofs.lemmas.Iterator.{YieldsList-from_slice}
+use Rattle.std.proofs.lemmas.Iterator.Search.{all_from_yields_List}
+use Rattle.btree_v2_record.specs.declared.layout.Field.{Field}
+use Rattle.btree_v2_record.specs.Answers.{values_of}
+use Rattle.btree_v2_record.specs.Steps.{place_of}
+use Rattle.btree_v2_record.proofs.Fields.{fits_all}
 use Rattle.btree_v2_record.proofs.all_fit.Goals as goal
 
-pub loop-i-init : goal.loop-i-init
-loop-i-init c = fitting_start c.args.first c.args.values.now
-
-pub returns-then-not-fits : goal.returns-then-not-fits
-returns-then-not-fits c =
-    fitting_not _ _ _ c.loop-i.invariant _ _ _ c.requires.2 c.loop-i-test.true c.meaning_of-meaning.ensures c.width_of.ensures
-    c.fits.ensures c.if-not-fits.true
-
-pub loop-i-preserved : goal.loop-i-preserved
-loop-i-preserved c = search fitting_turn
-
 pub returns : goal.returns
-returns c = search fitting_end
+returns c =
+    let fs = c.args.fields.now in
+    let v = values_of c.args.values.now in
+    all_from_yields_List (λ (f : Field). ltb (get_or v (place_of f.meaning) 0) (256 ^ f.width)) _ _ c.all.result c.all.ensures.ran
+    (YieldsList-from_slice fs cc) (λ x b q k. search (rules, tests))
+    ∙ sym (fits_all fs v)

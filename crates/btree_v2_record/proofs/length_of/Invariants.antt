@@ -1,10 +1,11 @@
--- The loop of `length_of`: the widths of i fields are summed.
-use Prim.Native.Nat.{◌-◌}
-use Rattle.btree_v2_record.proofs.Loops.{Summed}
+-- The loop of `length_of`: the widths so far, and those that are left.
+use Rattle.std.proofs.Common.{◌≡◌, ◌+◌, ◌*◌, ◌≤◌, drop}
+use Rattle.btree_v2_record.specs.Records.{record_length}
+use Rattle.btree_v2_record.specs.Steps.{fields_of}
 use Rattle.btree_v2_record.proofs.length_of.Given as goal
 
-abbrev pub invariant-loop-i : goal.invariant-loop-i
-invariant-loop-i l = Summed l.first l.length l.i
-
-abbrev pub decreases-loop-i : goal.decreases-loop-i
-decreases-loop-i l = 4 - l.i
+abbrev pub invariant-loop-field : goal.invariant-loop-field
+invariant-loop-field l = record {
+  small : l.length ≤ 8 * l.field-index;
+  leads : l.length + record_length (fields_of (drop l.field-index l.fields)) ≡ record_length (fields_of l.fields);
+}

@@ -1,16 +1,13 @@
--- The loop of `read_fields`: the numbers of i fields stand at their places.
-use Rattle.btree_v2_record.proofs.Loops.{filling_start, filling_room, filling_turn, filling_end}
-use borrow.Author.Rules.{rules}
+-- `read_fields`: a turn of the loop.
+use Rattle.std.proofs.Common.{◌∙◌, sym, arith}
+use Rattle.btree_v2_record.proofs.Fields.{length_left, filled_left}
 use Rattle.btree_v2_record.proofs.read_fields.Goals as goal
 
-pub loop-i-init : goal.loop-i-init
-loop-i-init c = search filling_start
-
-pub number_before-requires : goal.number_before-requires
-number_before-requires c = search (rules, filling_room)
-
-pub loop-i-preserved : goal.loop-i-preserved
-loop-i-preserved c = search filling_turn
-
-pub returns : goal.returns
-returns c = search filling_end
+pub loop-field-preserved : goal.loop-field-preserved
+loop-field-preserved c =
+    let fs = c.args.fields.now in
+    let i = c.loop-field.field-index in
+    record {
+      place = omega (arith, length_left fs i c.field-item.result (omega arith));
+      leads = sym (filled_left fs i c.field-item.result (omega arith) c.args.record.now _ _ c.loop-field.at _ c.read_le.ensures c.with-values.ensures) ∙ c.loop-field.invariant.leads;
+    }
