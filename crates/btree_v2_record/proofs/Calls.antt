@@ -1,5 +1,5 @@
 -- The two calls for a record with the fields of a type are those for a record of the type.
-use Rattle.std.proofs.Common.{◌≡◌, ℕ, true, List, refl}
+use Rattle.std.proofs.Common.{◌≡◌, ℕ, true, List}
 use Rattle.btree_v2_record.specs.Records.{field_table, is_in, fields_in, record_read, record_written, record_output}
 use Rattle.btree_v2_record.specs.Steps.{fields_read, fields_written, fields_output}
 use Rattle.btree_v2_record.proofs.Values.{table_each_once, filled_values}

@@ -1,5 +1,5 @@
 -- The code's types and fields as those of the table, and the two calls for a record with given fields.
-use Rattle.std.specs.Prelude.{ℕ, ◌≡◌, ◌^◌, ◌≤◌, Bool, true, false, List, [], ◌∷◌, Result, MatchResult, map, leb, eqb, length, set, take, drop}
+use Rattle.std.specs.Prelude.{ℕ, ◌≡◌, true, false, List, [], ◌∷◌, Result, MatchResult, map, leb, eqb, length, set, take, drop}
 use Rattle.numbers.specs.Numbers.{unle}
 use Rattle.numbers.specs.Places.{over}
 use Rattle.refusal.specs.Answer.{Answer, accepted, refused, or_else, if_accepted}
