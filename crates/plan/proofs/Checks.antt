@@ -1,4 +1,4 @@
--- The planner's refusals one by one, in the forms in which the code meets them, and what an accepted plan has passed.
+-- The planner's refusals 10 and 11, in the forms in which the code meets them, and what an accepted plan has passed.
 use mathlib.Core.Path.{◌≡◌, refl, sym}
 use mathlib.Core.Bool.{Bool, true, false, not, ◌||◌, ◌&&◌, true≢false}
 use mathlib.Core.List.{List, [], ◌∷◌}
@@ -15,30 +15,6 @@ use Rattle.plan.proofs.Depths.{holding, depth_holds, depth_le_23, depth_holds_al
 use Rattle.node_info.specs.declared.Geometry.{Geometry}
 
 module _ (n : ℕ) (g : Geometry) where
-  -- The refusals, each after the tests before it have passed.
-  pub checks_4 : field_size g.offset_size ≡ false → plan_answer n g ≡ refused 4 (g.offset_size ∷ [])
-  unfolding plan_answer
-  checks_4 e = rw e
-
-  module _ (offset : field_size g.offset_size ≡ true) where
-    pub checks_7_low : g.node_size < 10 → plan_answer n g ≡ refused 7 (g.node_size ∷ [])
-    unfolding plan_answer
-    checks_7_low h = rw (offset, lt-leb 10 g.node_size h)
-
-    pub checks_7_high : 65536 < g.node_size → plan_answer n g ≡ refused 7 (g.node_size ∷ [])
-    unfolding plan_answer
-    checks_7_high h = rw (offset, le-leb 10 g.node_size (omega arith), lt-leb g.node_size 65536 h)
-
-    module _ (low : 10 ≤ g.node_size) (high : g.node_size ≤ 65536) where
-      pub checks_8 : g.record_size ≡ 0 → plan_answer n g ≡ refused 8 []
-      unfolding plan_answer
-      checks_8 e = rw (offset, le-leb 10 g.node_size low, le-leb g.node_size 65536 high, le-ltb 0 g.record_size (omega arith))
-
-      pub checks_9 : (g.record_size ≡ 0 → ⊥) → 16777215 < n → plan_answer n g ≡ refused 9 (n ∷ [])
-      unfolding plan_answer
-      checks_9 some h =
-          rw (offset, le-leb 10 g.node_size low, le-leb g.node_size 65536 high, lt-ltb 0 g.record_size (omega arith), lt-leb n 16777215 h)
-
   module _ (pass : Passed n g) where
     -- What is left of the tests.
     passed_9 : plan_answer n g

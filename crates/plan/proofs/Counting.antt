@@ -1,18 +1,17 @@
 -- Counting a subtree by its children's two numbers of records, in the forms in which the code has them.
-use mathlib.Core.Path.{◌≡◌, refl, sym, ◌∙◌}
+use mathlib.Core.Path.{◌≡◌, refl, ◌∙◌}
 use mathlib.Core.Bool.{false}
-use mathlib.Core.List.{List}
 use Prim.Native.Nat.{ℕ, suc, ◌+◌, ◌-◌, ◌*◌, ◌/◌, ◌%◌, ◌^◌, ◌≤◌, ◌<◌}
 use native.Mathlib.Nat.{one-mul, mul-le-mul_left, one-le-pow, zero-mul, zero-div, zero-mod, div-le_self}
 use native.Mathlib.Omega.{arith}
 use lib.Dec.{ltb, lit<}
-use lib.ListN.{get_or}
 use lib.Pow.{shl_exact}
-use mir.Syntax.{w64}
-use mir.Val.{Fits}
-use Rattle.plan.specs.Steps.{level_of, Countable, Counted}
-use Rattle.plan.specs.Tree.{below, nodes, leaves}
-use Rattle.plan.specs.Planned.{taken, plan_tree, thin}
+use Rattle.node_info.specs.declared.NodeInfo.{NodeInfo}
+use Rattle.plan.specs.Steps.{capacity_in, Countable, Counted, FewChildren}
+use Rattle.plan.specs.Tree.{Tree, below, nodes, leaves}
+use Rattle.plan.specs.Planned.{taken, distribution, plan_tree, thin}
+use Rattle.plan.specs.declared.Distribution.{Distribution}
+use Rattle.plan.specs.declared.Counts.{Counts}
 use Rattle.plan.proofs.Distributing.{share, extra, taken_one, taken_quotient, taken_pos, taken_le, extra_lt, all_children_more, all_children_less}
 use Rattle.plan.proofs.Plans.{plan_nodes, plan_leaves, plan_nodes_le}
 use Rattle.plan.proofs.Thin.{thin_pos, thin_children}
@@ -28,144 +27,139 @@ power_pos d h = rw (power d h) (one-le-pow (d + 1) 2 (lit< tt))
 pub thin_test : (d n : ℕ) → d ≤ 32 → ltb n (1 * 2 ^ (d + 1) % 2 ^ 64 - 1) ≡ ltb n (2 ^ (d + 1) - 1)
 thin_test d n h = rw (power d h)
 
--- What a node keeps and deals.
-abbrev Distributing : ℕ → ℕ → ℕ → ℕ → ℕ → Type 0
-Distributing most n kept base rest = (kept ≡ taken most n) × (base ≡ share most n) × (rest ≡ extra most n)
-
-pub distribute_none : (most n : ℕ) → n ≡ 0 → Distributing most n 1 0 0
+-- What a node keeps and deals, by the ways out of `distribute`.
+pub distribute_none : (most n : ℕ) → n ≡ 0 → ◌≡◌ {A = Distribution} (record { kept = 1; base = 0; extra = 0 }) (distribution most n)
 distribute_none most n e =
     let one : taken most n ≡ 1 = taken_one most n (omega arith) in
-    rw (one, e) (refl, refl, refl)
+    rw (one, e)
 
-pub distribute_one : (most n : ℕ) → n / 2 ≤ most → Distributing most n 1 ((n - 1) / 2) ((n - 1) % 2)
-distribute_one most n h = rw (taken_one most n (omega arith)) (refl, refl, refl)
+pub distribute_one : (most n : ℕ) → n / 2 ≤ most
+    → ◌≡◌ {A = Distribution} (record { kept = 1; base = (n - 1) / 2; extra = (n - 1) % 2 }) (distribution most n)
+distribute_one most n h = rw (taken_one most n (omega arith))
 
 module _ (most n : ℕ) (h : most < n / 2) where
   many : taken most n ≡ n / (most + 1)
   many = taken_quotient most n (omega arith)
 
-  pub distribute_all : n - n / (most + 1) ≡ 0 → Distributing most n (n / (most + 1)) 0 0
-  distribute_all e = rw (many, e, zero-div, zero-mod) (refl, refl, refl)
+  pub distribute_all : n - n / (most + 1) ≡ 0 → ◌≡◌ {A = Distribution} (record { kept = n / (most + 1); base = 0; extra = 0 }) (distribution most n)
+  distribute_all e = rw (many, e, zero-div, zero-mod)
 
-  pub distribute_more : Distributing most n (n / (most + 1)) ((n - n / (most + 1)) / (n / (most + 1) + 1)) ((n - n / (most + 1)) % (n / (most + 1) + 1))
-  distribute_more = rw many (refl, refl, refl)
-
-pub split_fits : (most n kept : ℕ) → kept ≡ taken most n → 0 < n → n < 2 ^ 24 → Fits w64 (kept + 1)
-split_fits most n kept e h l = omega (arith, taken_le most n h)
-
--- Sums over the children fit.
-module _ (p x l s : ℕ) (hp : p ≤ 2 ^ 24) (hx : x < p) (hl : l < 2 ^ 24) (hs : s < 2 ^ 24) where
-  pub over_le : x * l + (p - x) * s ≤ 2 ^ 48
-  over_le =
-      let a : l ≤ 2 ^ 24 = omega arith in
-      let b : s ≤ 2 ^ 24 = omega arith in
-      omega (arith, mul-le-mul_left x a, mul-le-mul_left (p - x) b)
-
-  pub over_fits : Fits w64 (x * l + (p - x) * s)
-  over_fits = omega (arith, over_le)
-
-  pub over_first : Fits w64 (x * l)
-  over_first = omega (arith, over_le)
-
-  pub over_second : Fits w64 ((p - x) * s)
-  over_second = omega (arith, over_le)
+  pub distribute_more : ◌≡◌ {A = Distribution}
+      (record {
+        kept = n / (most + 1);
+        base = (n - n / (most + 1)) / (n / (most + 1) + 1);
+        extra = (n - n / (most + 1)) % (n / (most + 1) + 1);
+      })
+      (distribution most n)
+  distribute_more = rw many
 
 -- A leaf.
-pub count_leaf : (l : List ℕ) (d n : ℕ) → d ≡ 0 → Counted l d n 1 1
+pub count_leaf : (t : NodeInfo) (d n : ℕ) → d ≡ 0 → Counted t d n (record { nodes = 1; leaves = 1 })
 unfolding nodes below leaves
-count_leaf l d n e =
+count_leaf t d n e =
     rw e (record { «nodes» = refl; «leaves» = refl; few_nodes = lit< tt; few_leaves = lit< tt })
 
--- An internal node of level u + 1.
-module _ (l : List ℕ) (u n : ℕ) (h : Countable l (suc u) n) where
-  thick : thin (level_of l) (suc u) n ≡ false
+-- An internal node of level u + 1, whose children's subtrees hold `most`.
+module _ (t : NodeInfo) (u n : ℕ) (h : Countable t (suc u) n) where
+  abbrev most : ℕ
+  most = capacity_in t u
+
+  abbrev tree : (d : ℕ) → ℕ → Tree d
+  tree = plan_tree (capacity_in t)
+
+  thick : thin (capacity_in t) (suc u) n ≡ false
   thick = h.thick (omega arith)
 
   some : 1 ≤ n
-  some = thin_pos (level_of l) (suc u) n thick
+  some = thin_pos (capacity_in t) (suc u) n thick
 
-  kept : taken (level_of l u) n ≤ n
-  kept = taken_le (level_of l u) n some
+  kept : taken most n ≤ n
+  kept = taken_le most n some
 
-  child_small : share (level_of l u) n + 1 < 2 ^ 24
+  child_small : share most n + 1 < 2 ^ 24
   child_small =
-      omega (arith, h.few, kept, taken_pos (level_of l u) n, div-le_self (n - taken (level_of l u) n) (taken (level_of l u) n + 1))
+      omega (arith, h.few, kept, taken_pos most n, div-le_self (n - taken most n) (taken most n + 1))
 
-  less_at : Countable l u (share (level_of l u) n)
+  less_at : Countable t u (share most n)
   less_at =
       record {
         deep = omega (arith, h.deep);
         few = omega (arith, child_small);
         small = λ v g. h.small v (omega arith);
-        thick = λ _. all_children_less (λ x. thin (level_of l) u x ≡ false) (level_of l u) n (thin_children (level_of l) u n thick);
+        thick = λ _. all_children_less (λ x. thin (capacity_in t) u x ≡ false) most n (thin_children (capacity_in t) u n thick);
       }
 
-  more_at : (extra (level_of l u) n ≡ 0 → ⊥) → Countable l u (share (level_of l u) n + 1)
+  more_at : (extra most n ≡ 0 → ⊥) → Countable t u (share most n + 1)
   more_at ne =
       record {
         deep = omega (arith, h.deep);
         few = child_small;
         small = λ v g. h.small v (omega arith);
-        thick = λ _. all_children_more (λ x. thin (level_of l) u x ≡ false) (level_of l u) n (omega arith) (thin_children (level_of l) u n thick);
+        thick = λ _. all_children_more (λ x. thin (capacity_in t) u x ≡ false) most n (omega arith) (thin_children (capacity_in t) u n thick);
       }
 
-  counted_at : (a b ln ll sn sl : ℕ)
-      → a ≡ extra (level_of l u) n * ln + (taken (level_of l u) n + 1 - extra (level_of l u) n) * sn + 1
-      → b ≡ extra (level_of l u) n * ll + (taken (level_of l u) n + 1 - extra (level_of l u) n) * sl
-      → extra (level_of l u) n * ln ≡ extra (level_of l u) n * nodes u (plan_tree (level_of l) u (share (level_of l u) n + 1))
-      → extra (level_of l u) n * ll ≡ extra (level_of l u) n * leaves u (plan_tree (level_of l) u (share (level_of l u) n + 1))
-      → Counted l u (share (level_of l u) n) sn sl → Counted l (suc u) n a b
-  counted_at a b ln ll sn sl ha hb hn hl less =
-      let an : a ≡ nodes (suc u) (plan_tree (level_of l) (suc u) n) = rw (ha, hn, less.«nodes», plan_nodes (level_of l) u n) in
-      let bl : b ≡ leaves (suc u) (plan_tree (level_of l) (suc u) n) = rw (hb, hl, less.«leaves», plan_leaves (level_of l) u n) in
-      let most = plan_nodes_le (level_of l) (suc u) n thick in
+  counted_at : (all larger smaller : Counts)
+      → all.nodes ≡ extra most n * larger.nodes + (taken most n + 1 - extra most n) * smaller.nodes + 1
+      → all.leaves ≡ extra most n * larger.leaves + (taken most n + 1 - extra most n) * smaller.leaves
+      → extra most n * larger.nodes ≡ extra most n * nodes u (tree u (share most n + 1))
+      → extra most n * larger.leaves ≡ extra most n * leaves u (tree u (share most n + 1))
+      → Counted t u (share most n) smaller → Counted t (suc u) n all
+  counted_at all larger smaller hn hl ln ll less =
+      let all_nodes : all.nodes ≡ nodes (suc u) (tree (suc u) n) = rw (hn, ln, less.«nodes», plan_nodes (capacity_in t) u n) in
+      let all_leaves : all.leaves ≡ leaves (suc u) (tree (suc u) n) = rw (hl, ll, less.«leaves», plan_leaves (capacity_in t) u n) in
+      let few = plan_nodes_le (capacity_in t) (suc u) n thick in
       record {
-        «nodes» = an;
-        «leaves» = bl;
+        «nodes» = all_nodes;
+        «leaves» = all_leaves;
         few_nodes = omega (arith, h.few);
-        few_leaves = omega (arith, h.few, leaves_le_nodes (suc u) (plan_tree (level_of l) (suc u) n));
+        few_leaves = omega (arith, h.few, leaves_le_nodes (suc u) (tree (suc u) n));
       }
 
 -- The same of depth d in the code's terms.
-module _ (l : List ℕ) (d n : ℕ) (h : Countable l d n) (ne : d ≡ 0 → ⊥) where
+module _ (t : NodeInfo) (d n : ℕ) (h : Countable t d n) (ne : d ≡ 0 → ⊥) where
   up : d ≡ suc (d - 1)
   up = omega arith
 
-  at : Countable l (suc (d - 1)) n
+  at : Countable t (suc (d - 1)) n
   at = rw up at h
 
-  pub split_asks : (0 < n) × (n < 2 ^ 24)
-  split_asks = (some l (d - 1) n at, h.few)
+  module _ (x : Distribution) (e : x ≡ distribution (capacity_in t (d - 1)) n) where
+    pub less_asks : Countable t (d - 1) x.base
+    less_asks = rw e (less_at t (d - 1) n at)
 
-  module _ (p s x : ℕ)
-      (hp : p ≡ taken (get_or l (d - 1) 0) n + 1) (hs : s ≡ share (get_or l (d - 1) 0) n) (hx : x ≡ extra (get_or l (d - 1) 0) n) where
-    pub less_asks : Countable l (d - 1) s
-    less_asks = rw hs (less_at l (d - 1) n at)
+    pub more_asks : (x.extra ≡ 0 → ⊥) → Countable t (d - 1) (x.base + 1)
+    more_asks none = rw e (more_at t (d - 1) n at (rw e at none))
 
-    pub more_asks : (x ≡ 0 → ⊥) → Countable l (d - 1) (s + 1)
-    more_asks e = rw hs (more_at l (d - 1) n at (λ z. e (hx ∙ z)))
+    kept_few : x.kept < 2 ^ 24
+    kept_few = rw e (omega (arith, kept t (d - 1) n at, h.few))
 
-    pub more_fits : Fits w64 (s + 1)
-    more_fits = omega (arith, child_small l (d - 1) n at)
+    extra_few : x.extra ≤ x.kept
+    extra_few = rw e (omega (arith, extra_lt (capacity_in t (d - 1)) n))
 
-    pub parts_few : p ≤ 2 ^ 24
-    parts_few = omega (arith, kept l (d - 1) n at, h.few)
+    module _ (smaller : Counts) (less : Counted t (d - 1) x.base smaller) where
+      pub few_children : (m : ℕ) (larger : Counts) → Counted t (d - 1) m larger → FewChildren x larger smaller
+      few_children m larger more =
+          record {
+            kept = kept_few;
+            extra = extra_few;
+            larger_nodes = more.few_nodes;
+            larger_leaves = more.few_leaves;
+            smaller_nodes = less.few_nodes;
+            smaller_leaves = less.few_leaves;
+          }
 
-    pub extra_less : x < p
-    extra_less = rw (hp, hx) (extra_lt (get_or l (d - 1) 0) n)
+      module _ (all larger : Counts)
+          (hn : all.nodes ≡ x.extra * larger.nodes + (x.kept + 1 - x.extra) * smaller.nodes + 1)
+          (hl : all.leaves ≡ x.extra * larger.leaves + (x.kept + 1 - x.extra) * smaller.leaves) where
+        counted : x.extra * larger.nodes ≡ x.extra * nodes (d - 1) (plan_tree (capacity_in t) (d - 1) (x.base + 1))
+            → x.extra * larger.leaves ≡ x.extra * leaves (d - 1) (plan_tree (capacity_in t) (d - 1) (x.base + 1))
+            → Counted t d n all
+        counted ln ll =
+            rw up
+            (counted_at t (d - 1) n at all larger smaller (rw e at hn) (rw e at hl) (rw e at ln) (rw e at ll) (rw e at less))
 
-    module _ (a b sn sl : ℕ) (less : Counted l (d - 1) s sn sl) where
-      pub count_one : x ≡ 0 → a ≡ x * sn + (p - x) * sn + 1 → b ≡ x * sl + (p - x) * sl → Counted l d n a b
-      count_one e ha hb =
-          let none : extra (get_or l (d - 1) 0) n ≡ 0 = sym hx ∙ e in
-          rw up
-          (counted_at l (d - 1) n at a b sn sl sn sl (rw (hp, hx) at ha) (rw (hp, hx) at hb)
-          (rw (none, zero-mul, zero-mul)) (rw (none, zero-mul, zero-mul)) (rw hs at less))
+        pub count_one : x.extra ≡ 0 → Counted t d n all
+        count_one none = counted (rw (none, zero-mul, zero-mul)) (rw (none, zero-mul, zero-mul))
 
-      pub count_two : (ln ll : ℕ) → Counted l (d - 1) (s + 1) ln ll → a ≡ x * ln + (p - x) * sn + 1
-          → b ≡ x * ll + (p - x) * sl → Counted l d n a b
-      count_two ln ll more ha hb =
-          let m : Counted l (d - 1) (share (get_or l (d - 1) 0) n + 1) ln ll = rw hs at more in
-          rw up
-          (counted_at l (d - 1) n at a b ln ll sn sl (rw (hp, hx) at ha) (rw (hp, hx) at hb)
-          (rw m.«nodes») (rw m.«leaves») (rw hs at less))
+        pub count_two : Counted t (d - 1) (x.base + 1) larger → Counted t d n all
+        count_two more = counted (rw more.«nodes») (rw more.«leaves»)

@@ -15,7 +15,7 @@ use Rattle.node_info.specs.Table.{info_at}
 use Rattle.node_info.specs.declared.NodeInfo.{NodeInfo}
 use Rattle.node_info.proofs.Capacities.{node_zero, subtree_zero, subtree_suc, node_falls, subtree_none, subtree_power, subtree_rises}
 use Rattle.plan.specs.Planned.{least_level, plan_depth, empty_level}
-use Rattle.plan.specs.Steps.{Passed, Searched}
+use Rattle.plan.specs.Steps.{Passed, Found}
 use Rattle.plan.proofs.Thin.{Levels}
 use Rattle.node_info.specs.declared.Geometry.{Geometry}
 
@@ -152,26 +152,25 @@ module _ (n : ℕ) (g : Geometry) where
         (lt_or_le (plan_depth n g) (empty_level n g)))))
         (eq-zero-or-pos n)
 
-    pub searched_enough : n ≤ subtree_capacity g u → Searched n g info u true
-    searched_enough h =
+    pub found_enough : n ≤ subtree_capacity g u → Found n g info u
+    found_enough h =
         let deep = depth_is u (omega arith) (λ v l. (tried v l).0) h in
-        record { low = low; table = table; tested = sym (enough_test h deep); found = sym deep }
+        record { low = low; table = table; holds = enough_test h deep; is_depth = sym deep }
 
     -- It is not, and holds none.
-    pub searched_empty : subtree_capacity g u < n → node_capacity g u ≡ 0 → Searched n g info u false
-    searched_empty small none =
-        let deep : u ≤ plan_depth n g =
-        ⊎_elim
-        (λ (l : plan_depth n g < u). absurd (not-le_of_lt (tried _ l).0 (depth_enough (omega arith))))
-        (λ (l : u ≤ plan_depth n g). l)
-        (lt_or_le (plan_depth n g) u) in
-        let empty = empty_is u deep (λ v l. (tried v l).1) none in
-        record {
-          low = low;
-          table = table;
-          tested = rw (ne_eqb n 0 (λ e. omega arith), empty, le-ltb (plan_depth n g) u deep);
-          found = sym empty;
-        }
+    module _ (small : subtree_capacity g u < n) (none : node_capacity g u ≡ 0) where
+      beyond : u ≤ plan_depth n g
+      beyond =
+          ⊎_elim
+          (λ (l : plan_depth n g < u). absurd (not-le_of_lt (tried _ l).0 (depth_enough (omega arith))))
+          (λ (l : u ≤ plan_depth n g). l)
+          (lt_or_le (plan_depth n g) u)
+
+      pub empty_here : empty_level n g ≡ u
+      empty_here = empty_is u beyond (λ v l. (tried v l).1) none
+
+      pub empty_test : holding ≡ false
+      empty_test = rw (ne_eqb n 0 (λ e. omega arith), empty_here, le-ltb (plan_depth n g) u beyond)
 
   module _ (pass : Passed n g) where
     -- A level that holds records and is too small lies below 23.

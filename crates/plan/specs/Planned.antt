@@ -1,13 +1,14 @@
 -- The shape of the tree that is written for n records, and the planner's answer: document 01, "Planner" and "Causes and numbers".
-use Rattle.std.specs.Prelude.{◌≡◌, ℕ, zero, suc, ◌+◌, ◌-◌, ◌*◌, ◌/◌, ◌%◌, ◌^◌, max, Bool, false, not, ◌||◌, ◌&&◌, List, [], ◌∷◌, ◌++◌, leb, ltb, eqb, replicate}
+use Rattle.std.specs.Prelude.{◌≡◌, ℕ, zero, suc, ◌+◌, ◌-◌, ◌*◌, ◌/◌, ◌%◌, ◌^◌, max, Bool, false, not, ◌||◌, ◌&&◌, List, [], ◌∷◌, ◌++◌, leb, ltb, eqb, replicate, Result, IfOk}
 use Rattle.numbers.specs.Numbers.{pick, field_size}
-use Rattle.refusal.specs.Answer.{Answer, accepted, refused, refusal_of, or_else}
+use Rattle.refusal.specs.Answer.{Answer, accepted, refused, answer_of, or_else}
+use Rattle.refusal.specs.declared.Refusal.{Refusal}
 use Rattle.node_info.specs.Capacity.{subtree_capacity, node_capacity}
-use Rattle.node_info.specs.Table.{info_at, no_info}
-use Rattle.node_info.specs.declared.NodeInfo.{NodeInfo}
+use Rattle.node_info.specs.Table.{info_at}
 use Rattle.plan.specs.Tree.{Kids, last, more, Tree, nodes, leaves}
-use Rattle.plan.specs.declared.PlanAnswer.{PlanAnswer}
-use Rattle.plan.specs.declared.PlanAnswer.TheVariants.{Planned, Refused}
+use Rattle.plan.specs.declared.BTreeV2Plan.{BTreeV2Plan}
+use Rattle.plan.specs.declared.PlanAndTable.{PlanAndTable}
+use Rattle.plan.specs.declared.Distribution.{Distribution}
 use Rattle.node_info.specs.declared.Geometry.{Geometry}
 
 -- a / b, rounded up, for b above 0.
@@ -25,6 +26,15 @@ distributed m p = replicate (m % p) (m / p + 1) ++ replicate (p - m % p) (m / p)
 -- The children's numbers of records.
 unfoldable pub children : ℕ → ℕ → List ℕ
 children c n = distributed (n - taken c n) (taken c n + 1)
+
+-- The same as the code has it.
+abbrev pub distribution : ℕ → ℕ → Distribution
+distribution c n =
+    record {
+      kept = taken c n;
+      base = (n - taken c n) / (taken c n + 1);
+      extra = (n - taken c n) % (taken c n + 1);
+    }
 
 -- The children of these numbers, each made by f; a node has one at least.
 unfoldable pub kids_of : {A : Type 0} → (ℕ → A) → List ℕ → Kids A
@@ -79,17 +89,17 @@ module _ (n : ℕ) (g : Geometry) where
       (or_else (eqb n 0 || ltb plan_depth empty_level) (refused 10 (empty_level ∷ []))
       (or_else (eqb n 0 || not (thin (subtree_capacity g) plan_depth n)) (refused 11 []) (accepted plan_figures))))))
 
--- The table where an answer accepts, and zeros where it refuses.
-abbrev pub table_if : Answer → NodeInfo → NodeInfo
-table_if (accepted figures) t = t
-table_if (refused number values) t = no_info
+-- A plan's numbers, in that order; and what a call gives, in those terms.
+abbrev pub plan_numbers : BTreeV2Plan → List ℕ
+plan_numbers p = p.depth ∷ p.nodes ∷ p.leaves ∷ p.image_size ∷ []
+
+abbrev pub plan_answer_of : Result BTreeV2Plan Refusal → Answer
+plan_answer_of = answer_of plan_numbers
+
+abbrev pub laid_answer_of : Result PlanAndTable Refusal → Answer
+laid_answer_of = answer_of (λ laid. plan_numbers laid.plan)
 
 -- What a plan with its table is: the planner's answer, and the table of the plan's depth where that accepts.
-pub record Laid (n : ℕ) (g : Geometry) (answer : Answer) (info : NodeInfo) : Type 0 where
-  pub answered : answer ≡ plan_answer n g
-  pub table : info ≡ table_if (plan_answer n g) (info_at g (plan_depth n g))
-
--- What the call's own answer says, in those terms.
-abbrev pub plan_answer_of : PlanAnswer → Answer
-plan_answer_of (Planned p) = accepted (p.depth ∷ p.nodes ∷ p.leaves ∷ p.image_size ∷ [])
-plan_answer_of (Refused r) = refusal_of r
+pub record Laid (n : ℕ) (g : Geometry) (laid : Result PlanAndTable Refusal) : Type 0 where
+  pub answered : laid_answer_of laid ≡ plan_answer n g
+  pub table : IfOk laid (λ l. l.info ≡ info_at g (plan_depth n g))

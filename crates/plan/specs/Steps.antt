@@ -1,11 +1,13 @@
 -- What the planner's private steps ask and give.
-use Rattle.std.specs.Prelude.{◌≡◌, Bool, true, false, ◌||◌, List, ℕ, ◌^◌, ◌≤◌, ◌<◌, ltb, eqb, get_or}
-use Rattle.numbers.specs.Numbers.{pick, field_size}
-use Rattle.node_info.specs.Table.{info_at}
+use Rattle.std.specs.Prelude.{◌≡◌, true, false, ◌||◌, ℕ, ◌^◌, ◌≤◌, ◌<◌, ltb, eqb}
+use Rattle.numbers.specs.Numbers.{field_size}
+use Rattle.node_info.specs.Table.{info_at, level_in}
 use Rattle.node_info.specs.declared.NodeInfo.{NodeInfo}
+use Rattle.node_info.specs.declared.Geometry.{Geometry}
 use Rattle.plan.specs.Tree.{nodes, leaves}
 use Rattle.plan.specs.Planned.{plan_tree, thin, plan_depth, empty_level}
-use Rattle.node_info.specs.declared.Geometry.{Geometry}
+use Rattle.plan.specs.declared.Distribution.{Distribution}
+use Rattle.plan.specs.declared.Counts.{Counts}
 
 -- The numbers have passed refusals 4 and 7 to 9.
 pub record Passed (n : ℕ) (g : Geometry) : Type 0 where
@@ -15,28 +17,36 @@ pub record Passed (n : ℕ) (g : Geometry) : Type 0 where
   pub some : 0 < g.record_size
   pub few : n ≤ 16777215
 
--- What the search for the depth has found: the depth where each level needed for it holds records, else the first that holds none; and
--- the table up to that level.
-pub record Searched (n : ℕ) (g : Geometry) (info : NodeInfo) (level : ℕ) (enough : Bool) : Type 0 where
-  pub low : level ≤ 23
-  pub table : info ≡ info_at g level
-  pub tested : enough ≡ (eqb n 0 || ltb (plan_depth n g) (empty_level n g))
-  pub found : level ≡ pick enough (plan_depth n g) (empty_level n g)
+-- The search for the depth has found it: each level needed for it holds records, and the table is that up to it.
+pub record Found (n : ℕ) (g : Geometry) (info : NodeInfo) (depth : ℕ) : Type 0 where
+  pub low : depth ≤ 23
+  pub table : info ≡ info_at g depth
+  pub holds : (eqb n 0 || ltb (plan_depth n g) (empty_level n g)) ≡ true
+  pub is_depth : depth ≡ plan_depth n g
 
--- The capacity of each level's subtrees, out of the table's column.
-abbrev pub level_of : List ℕ → ℕ → ℕ
-level_of l u = get_or l u 0
+-- The capacity of each level's subtrees, out of the table.
+abbrev pub capacity_in : NodeInfo → ℕ → ℕ
+capacity_in t u = (level_in t u).cum_max_nrec
 
 -- n records at depth d can be counted: the numbers are small, and no subtree is too thin.
-pub record Countable (l : List ℕ) (d n : ℕ) : Type 0 where
+pub record Countable (t : NodeInfo) (d n : ℕ) : Type 0 where
   pub deep : d < 33
   pub few : n < 2 ^ 24
-  pub small : (u : ℕ) → u < d → level_of l u < 2 ^ 24
-  pub thick : 0 < d → thin (level_of l) d n ≡ false
+  pub small : (u : ℕ) → u < d → capacity_in t u < 2 ^ 24
+  pub thick : 0 < d → thin (capacity_in t) d n ≡ false
 
--- They have x nodes and y leaves.
-pub record Counted (l : List ℕ) (d n x y : ℕ) : Type 0 where
-  pub «nodes» : x ≡ nodes d (plan_tree (level_of l) d n)
-  pub «leaves» : y ≡ leaves d (plan_tree (level_of l) d n)
-  pub few_nodes : x < 2 ^ 24
-  pub few_leaves : y < 2 ^ 24
+-- They have these nodes and leaves.
+pub record Counted (t : NodeInfo) (d n : ℕ) (counts : Counts) : Type 0 where
+  pub «nodes» : counts.nodes ≡ nodes d (plan_tree (capacity_in t) d n)
+  pub «leaves» : counts.leaves ≡ leaves d (plan_tree (capacity_in t) d n)
+  pub few_nodes : counts.nodes < 2 ^ 24
+  pub few_leaves : counts.leaves < 2 ^ 24
+
+-- The nodes of a node's children can be added up: neither the children nor the nodes of one are many.
+pub record FewChildren (distributed : Distribution) (larger smaller : Counts) : Type 0 where
+  pub kept : distributed.kept < 2 ^ 24
+  pub extra : distributed.extra ≤ distributed.kept
+  pub larger_nodes : larger.nodes < 2 ^ 24
+  pub larger_leaves : larger.leaves < 2 ^ 24
+  pub smaller_nodes : smaller.nodes < 2 ^ 24
+  pub smaller_leaves : smaller.leaves < 2 ^ 24

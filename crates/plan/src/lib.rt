@@ -2,11 +2,11 @@
 
 #![tactic(auto)]
 
-ghost use Rattle.std.specs.Prelude.{◌≡◌, not, ◌&&◌, ℕ, ◌+◌, ◌-◌, ◌*◌, ◌/◌, ◌%◌, ◌^◌, ◌≤◌, ◌<◌, ltb, eqb};
+ghost use Rattle.std.specs.Prelude.{◌≡◌, not, ◌&&◌, ◌+◌, ◌-◌, ◌*◌, ◌^◌, ◌≤◌, ltb, eqb, IfOk, IfErr};
 ghost use Rattle.refusal.specs.Answer.{refusal_of};
-ghost use Rattle.node_info.specs.Table.{no_info};
-ghost use Rattle.plan.specs.Steps.{Passed, Searched, Countable, Counted};
-ghost use Rattle.plan.specs.Planned.{taken, plan_answer, plan_answer_of, Laid};
+ghost use Rattle.node_info.specs.Table.{info_at};
+ghost use Rattle.plan.specs.Steps.{Passed, Found, FewChildren, Countable, Counted};
+ghost use Rattle.plan.specs.Planned.{distribution, plan_answer, plan_answer_of, Laid};
 
 use node_info::{Geometry, NodeInfo};
 use refusal::Refusal;
@@ -28,16 +28,10 @@ pub struct BTreeV2Plan {
     pub image_size: u64,
 }
 
-#[derive(Clone, Copy)]
-pub enum PlanAnswer {
-    Planned(BTreeV2Plan),
-    Refused(Refusal),
-}
-
-// An answer with the capacity table of the plan's depth, zeros where it is refused.
+// A plan with the capacity table of its depth.
 #[derive(Clone, Copy)]
 pub struct PlanAndTable {
-    pub answer: PlanAnswer,
+    pub plan: BTreeV2Plan,
     pub info: NodeInfo,
 }
 
@@ -50,8 +44,9 @@ pub struct Distribution {
 }
 
 // How n records are distributed where each child's subtree holds `most` at most. Two children are what most nodes of a deep tree have.
+#[tactic(auto, using(crate::proofs::Counting::distribute_none, crate::proofs::Counting::distribute_one, crate::proofs::Counting::distribute_all, crate::proofs::Counting::distribute_more))]
 pub fn distribute(most: u64, n: u64) -> Distribution
-    ensures { (result.kept ≡ taken most n) × (result.base ≡ (n - taken most n) / (taken most n + 1)) × (result.extra ≡ (n - taken most n) % (taken most n + 1)) }
+    ensures { result ≡ distribution most n }
 {
     if n == 0 {
         return Distribution {
@@ -77,31 +72,11 @@ pub fn distribute(most: u64, n: u64) -> Distribution
             extra: 0,
         };
     }
-    let parts = kept + 1;
+    let children = kept + 1;
     Distribution {
         kept,
-        base: rest / parts,
-        extra: rest % parts,
-    }
-}
-
-// The same by the number of children.
-#[derive(Clone, Copy)]
-struct Shares {
-    parts: u64,
-    base: u64,
-    extra: u64,
-}
-
-fn split(most: u64, n: u64) -> Shares
-    requires { (0 < n) × (n < 2 ^ 24) }
-    ensures { (result.parts ≡ taken most n + 1) × (result.base ≡ (n - taken most n) / (taken most n + 1)) × (result.extra ≡ (n - taken most n) % (taken most n + 1)) }
-{
-    let distributed = distribute(most, n);
-    Shares {
-        parts: distributed.kept + 1,
-        base: distributed.base,
-        extra: distributed.extra,
+        base: rest / children,
+        extra: rest % children,
     }
 }
 
@@ -112,32 +87,26 @@ struct Counts {
     leaves: u64,
 }
 
-// A sum over the children, of `larger` for each of the first `extra` and `smaller` for each of the others.
-fn over_children(distributed: Shares, larger: u64, smaller: u64) -> u64
-    requires { (distributed.parts ≤ 2 ^ 24) × (distributed.extra < distributed.parts) × (larger < 2 ^ 24) × (smaller < 2 ^ 24) }
-    ensures { (result ≡ distributed.extra * larger + (distributed.parts - distributed.extra) * smaller) × (result ≤ 2 ^ 48) }
-{
-    distributed.extra * larger + (distributed.parts - distributed.extra) * smaller
-}
-
-// The counts of a node whose children have these.
-fn gather(distributed: Shares, larger: Counts, smaller: Counts) -> Counts
-    requires { (distributed.parts ≤ 2 ^ 24) × (distributed.extra < distributed.parts) × (larger.nodes < 2 ^ 24) × (larger.leaves < 2 ^ 24) × (smaller.nodes < 2 ^ 24) × (smaller.leaves < 2 ^ 24) }
-    ensures { (result.nodes ≡ distributed.extra * larger.nodes + (distributed.parts - distributed.extra) * smaller.nodes + 1)
-        × (result.leaves ≡ distributed.extra * larger.leaves + (distributed.parts - distributed.extra) * smaller.leaves) }
-{
-    let under = over_children(distributed, larger.nodes, smaller.nodes);
-    let leaves = over_children(distributed, larger.leaves, smaller.leaves);
-    Counts {
-        nodes: under + 1,
-        leaves,
+impl Distribution {
+    // The counts of a node of which each larger child, and each smaller one, has these.
+    fn counts(&self, larger: Counts, smaller: Counts) -> Counts
+        requires { FewChildren self.now larger smaller }
+        ensures nodes { result.nodes ≡ self.now.extra * larger.nodes + (self.now.kept + 1 - self.now.extra) * smaller.nodes + 1 }
+        ensures leaves { result.leaves ≡ self.now.extra * larger.leaves + (self.now.kept + 1 - self.now.extra) * smaller.leaves }
+    {
+        let others = self.kept + 1 - self.extra;
+        Counts {
+            nodes: self.extra * larger.nodes + others * smaller.nodes + 1,
+            leaves: self.extra * larger.leaves + others * smaller.leaves,
+        }
     }
 }
 
-// The counts of a subtree of n records that is not too thin, where those of each level hold at most what `levels` says.
-fn count_subtree(levels: &[u64; 33], depth: usize, n: u64) -> Counts
-    requires { Countable levels.now depth n }
-    ensures { Counted levels.now depth n result.nodes result.leaves }
+// The counts of a subtree of n records that is not too thin, where those of each level hold at most what the table says.
+#[tactic(auto, using(crate::proofs::Counting::less_asks, crate::proofs::Counting::more_asks))]
+fn count_subtree(info: &NodeInfo, depth: usize, n: u64) -> Counts
+    requires { Countable info.now depth n }
+    ensures { Counted info.now depth n result }
 {
     if depth == 0 {
         return Counts {
@@ -146,16 +115,17 @@ fn count_subtree(levels: &[u64; 33], depth: usize, n: u64) -> Counts
         };
     }
     let under = depth - 1;
-    let distributed = split(levels[under], n);
-    let smaller = count_subtree(levels, under, distributed.base);
+    let distributed = distribute(info.levels[under].cum_max_nrec, n);
+    let smaller = count_subtree(info, under, distributed.base);
     if distributed.extra == 0 {
-        return gather(distributed, smaller, smaller);
+        return distributed.counts(smaller, smaller);
     }
-    let larger = count_subtree(levels, under, distributed.base + 1);
-    gather(distributed, larger, smaller)
+    let larger = count_subtree(info, under, distributed.base + 1);
+    distributed.counts(larger, smaller)
 }
 
 // Whether n records, not none, are too few for a tree of this depth.
+#[tactic(auto, using(crate::proofs::Counting::power_pos, crate::proofs::Laying::thin_none, crate::proofs::Laying::thin_some))]
 fn is_thin(depth: u16, n: u64) -> bool
     requires { depth ≤ 32 }
     ensures { result ≡ (not (eqb n 0) && ltb n (2 ^ (depth + 1) - 1)) }
@@ -166,108 +136,74 @@ fn is_thin(depth: u16, n: u64) -> bool
     n < (1u64 << (depth + 1)) - 1
 }
 
-impl PlanAndTable {
-    // A refusal, with no table.
-    pub fn refused(cause: Refusal) -> PlanAndTable
-        ensures { (plan_answer_of result.answer ≡ refusal_of cause) × (result.info ≡ no_info) }
-    {
-        PlanAndTable {
-            answer: PlanAnswer::Refused(cause),
-            info: NodeInfo::none(),
-        }
-    }
-}
-
-// What the search for the depth finds: a level, the table up to it, and whether the level is enough.
-#[derive(Clone, Copy)]
-struct Deepened {
-    info: NodeInfo,
-    depth: u16,
-    enough: bool,
-}
-
-// The search for the depth: from the leaves up, until a level is enough, or holds none. It ends at level 23 at the latest.
-fn deepen(record_count: u64, geometry: Geometry) -> Deepened
-    requires { Passed record_count geometry }
-    ensures { Searched record_count geometry result.info result.depth result.enough }
+// The search for the depth, which adds levels to the table of the leaves, until one is enough, or holds none. It ends at level 23 at the latest.
+#[tactic(auto, using(crate::proofs::Searching::sought_start, crate::proofs::Searching::sought_empty))]
+fn deepen(info: &mut NodeInfo, record_count: u64, geometry: Geometry) -> Result<u16, Refusal>
+    requires passed { Passed record_count geometry }
+    requires leaves { info.old ≡ info_at geometry 0 }
+    ensures found { IfOk result (λ depth. Found record_count geometry info.new depth) }
+    ensures none { IfErr result (λ cause. refusal_of cause ≡ plan_answer record_count geometry) }
 {
-    let mut info = NodeInfo::leaf_only(geometry);
-    let count_size = info.max_nrec_size;
-    let mut u = 0;
-    while info.cum_max_nrec[u] < record_count && 0 < info.max_nrec[u] {
-        let total = info.cum_max_nrec_size[u];
-        let under = info.cum_max_nrec[u];
-        let level = node_info::level_above(geometry, count_size, total, under);
-        u += 1;
-        info.cum_max_nrec_size[u] = level.total;
-        info.max_nrec[u] = level.most;
-        info.cum_max_nrec[u] = level.all;
+    let mut depth: u16 = 0;
+    while info.levels[depth as usize].cum_max_nrec < record_count {
+        if info.levels[depth as usize].max_nrec == 0 {
+            return Err(Refusal::LevelHoldsNone(depth));
+        }
+        info.add_level_above(geometry, depth);
+        depth += 1;
     }
-    let enough = record_count <= info.cum_max_nrec[u];
-    Deepened {
-        info,
-        depth: u as u16,
-        enough,
-    }
+    Ok(depth)
 }
 
 // The plan and its table, for numbers that have passed refusals 4 and 7 to 9. Whether a subtree is too thin is decided at the root.
-fn lay_out_passed(record_count: u64, geometry: Geometry) -> PlanAndTable
+#[tactic(auto, using(crate::proofs::Laying::level_deep, crate::proofs::Laying::laid_11, crate::proofs::Laying::image_fits, crate::proofs::Laying::laid_done))]
+fn lay_out_passed(record_count: u64, geometry: Geometry) -> Result<PlanAndTable, Refusal>
     requires { Passed record_count geometry }
-    ensures { Laid record_count geometry (plan_answer_of result.answer) result.info }
+    ensures { Laid record_count geometry result }
 {
-    let deepened = deepen(record_count, geometry);
-    let depth = deepened.depth;
-    if !deepened.enough {
-        return PlanAndTable::refused(Refusal::LevelHoldsNone(depth));
-    }
+    let mut info = NodeInfo::leaf_only(geometry);
+    let depth = deepen(&mut info, record_count, geometry)?;
     if is_thin(depth, record_count) {
-        return PlanAndTable::refused(Refusal::SubtreeTooThin);
+        return Err(Refusal::SubtreeTooThin);
     }
-    let info = deepened.info;
-    let counts = count_subtree(&info.cum_max_nrec, depth as usize, record_count);
+    let counts = count_subtree(&info, depth as usize, record_count);
     let plan = BTreeV2Plan {
         depth,
         nodes: counts.nodes,
         leaves: counts.leaves,
         image_size: counts.nodes * (geometry.node_size as u64),
     };
-    PlanAndTable {
-        answer: PlanAnswer::Planned(plan),
-        info,
-    }
+    Ok(PlanAndTable { plan, info })
 }
 
 // The plan and its table, or the first refusal.
-pub fn lay_out(record_count: u64, geometry: Geometry) -> PlanAndTable
-    ensures { Laid record_count geometry (plan_answer_of result.answer) result.info }
+#[tactic(auto, unfolding(crate::specs::Planned::plan_answer))]
+pub fn lay_out(record_count: u64, geometry: Geometry) -> Result<PlanAndTable, Refusal>
+    ensures { Laid record_count geometry result }
 {
     let offset_size = geometry.offset_size;
     let node_size = geometry.node_size;
     if !numbers::is_field_size(offset_size) {
-        return PlanAndTable::refused(Refusal::InvalidOffsetSize(offset_size));
+        return Err(Refusal::InvalidOffsetSize(offset_size));
     }
-    if node_size < NODE_SIZE_MIN {
-        return PlanAndTable::refused(Refusal::InvalidNodeSize(node_size));
-    }
-    if NODE_SIZE_MAX < node_size {
-        return PlanAndTable::refused(Refusal::InvalidNodeSize(node_size));
+    if !(NODE_SIZE_MIN..=NODE_SIZE_MAX).contains(&node_size) {
+        return Err(Refusal::InvalidNodeSize(node_size));
     }
     if geometry.record_size == 0 {
-        return PlanAndTable::refused(Refusal::ZeroRecordSize);
+        return Err(Refusal::ZeroRecordSize);
     }
     if RECORDS_MAX < record_count {
-        return PlanAndTable::refused(Refusal::TooManyRecords(record_count));
+        return Err(Refusal::TooManyRecords(record_count));
     }
     lay_out_passed(record_count, geometry)
 }
 
 impl BTreeV2Plan {
     // The plan alone.
-    pub fn new(record_count: u64, geometry: Geometry) -> PlanAnswer
+    pub fn new(record_count: u64, geometry: Geometry) -> Result<BTreeV2Plan, Refusal>
         ensures { plan_answer_of result ≡ plan_answer record_count geometry }
     {
-        let laid = lay_out(record_count, geometry);
-        laid.answer
+        let laid = lay_out(record_count, geometry)?;
+        Ok(laid.plan)
     }
 }
