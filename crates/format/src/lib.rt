@@ -1,6 +1,9 @@
-// What writer and readers share: the sizes that the format fixes, and what a write is given. The bytes are definitions, with no code.
+// What writer and readers share: the sizes that the format fixes, and what a write is given. The bytes are definitions.
 
 #![tactic(auto)]
+
+ghost use Rattle.std.specs.Prelude.{◌≡◌};
+ghost use Rattle.format.specs.Bytes.{header_size};
 
 use node_info::Geometry;
 
@@ -19,4 +22,13 @@ pub struct Request {
     pub length_size: u8,
     // the address of the first node
     pub start: u64,
+}
+
+impl Request {
+    // The bytes of its header.
+    pub fn header_size(&self) -> u64
+        ensures { result ≡ header_size self.now.geometry.offset_size self.now.length_size }
+    {
+        HEADER_OVERHEAD + (self.geometry.offset_size as u64) + (self.length_size as u64)
+    }
 }

@@ -1,9 +1,10 @@
 -- What the writing call's numbers and the lengths of the lent buffers decide.
-use Rattle.std.specs.Prelude.{ℕ, ◌+◌, ◌-◌, ◌*◌, ◌^◌, ◌≡◌, [], ◌∷◌, leb, eqb}
+use Rattle.std.specs.Prelude.{ℕ, ◌+◌, ◌-◌, ◌*◌, ◌^◌, ◌≡◌, [], ◌∷◌, leb, eqb, Result, IfOk}
 use Rattle.refusal.specs.Answer.{Answer, accepted, refused, or_else}
-use Rattle.node_info.specs.declared.NodeInfo.{NodeInfo}
 use Rattle.node_info.specs.Table.{info_at}
-use Rattle.plan.specs.Planned.{table_if}
+use Rattle.plan.specs.Planned.{laid_answer_of}
+use Rattle.plan.specs.declared.PlanAndTable.{PlanAndTable}
+use Rattle.refusal.specs.declared.Refusal.{Refusal}
 use Rattle.format.specs.declared.Request.{Request}
 use Rattle.format.specs.Bytes.{header_size}
 use Rattle.format.specs.Request.{depth_of}
@@ -20,6 +21,6 @@ length_answer q image l =
     (or_else (leb image l.image) (refused 15 (l.image ∷ [])) (accepted [])))))
 
 -- What the numbers and the lengths decide: the answer, and the table of an accepted plan.
-pub record Checked (q : Request) (l : Lengths) (answer : Answer) (info : NodeInfo) : Type 0 where
-  pub answered : answer ≡ write_answer q l.records l.header l.image
-  pub table : info ≡ table_if (write_answer q l.records l.header l.image) (info_at q.geometry (depth_of q))
+pub record Checked (q : Request) (l : Lengths) (checked : Result PlanAndTable Refusal) : Type 0 where
+  pub answered : laid_answer_of checked ≡ write_answer q l.records l.header l.image
+  pub table : IfOk checked (λ laid. laid.info ≡ info_at q.geometry (depth_of q))

@@ -1,21 +1,19 @@
--- By the ways out, in order.
-use Rattle.write_checks.proofs.Checking.{size_passed, records_few, checked_4, checked_5, checked_plan, checked_passed, checked_lengths}
+-- `check`, once the plan is made.
+use borrow.Author.Rules.{rules}
+use Rattle.write_checks.proofs.Checking.{records_few, checked_passed, checked_lengths}
 use Rattle.write_checks.proofs.check.Goals as goal
 
-pub returns-then-not-is_field_size : goal.returns-then-not-is_field_size
-returns-then-not-is_field_size c = search checked_4
+pub test_lengths-requires-clause-few : goal.test_lengths-requires-clause-few
+test_lengths-requires-clause-few c = records_few _ _ _ c.in_ok-laid.ensures.answered
 
-pub returns-then-not-is_field_size-2 : goal.returns-then-not-is_field_size-2
-returns-then-not-is_field_size-2 c = search checked_5
+pub returns-in_err-test_lengths : goal.returns-in_err-test_lengths
+returns-in_err-test_lengths c =
+    let refused = checked_lengths _ _ c.if-not-is_field_size.ensures c.if-not-is_field_size-2.ensures _ c.in_ok-laid.ensures.answered _ c.in_err-test_lengths.ensures in
+    search (rules, refused)
 
-pub returns-in_default : goal.returns-in_default
-returns-in_default c = search checked_plan
-
-pub test_lengths-tested-requires : goal.test_lengths-tested-requires
-test_lengths-tested-requires c = search (size_passed, records_few)
-
-pub returns-in-Accepted : goal.returns-in-Accepted
-returns-in-Accepted c = search checked_passed
-
-pub returns-in-Refused : goal.returns-in-Refused
-returns-in-Refused c = search checked_lengths
+pub returns : goal.returns
+returns c =
+    record {
+      answered = checked_passed _ _ c.if-not-is_field_size.ensures c.if-not-is_field_size-2.ensures _ c.in_ok-laid.ensures.answered c.in_ok-test_lengths.ensures;
+      table = c.in_ok-laid.ensures.table;
+    }
