@@ -1,32 +1,20 @@
--- `part` and `put`: bytes that are handed out, and items that are copied to a place; a buffer that is copied or cleared index by index.
-use mathlib.Core.Path.{◌≡◌, refl, sym}
-use mathlib.Core.List.{List, [], ◌++◌, append-nil}
+-- Items that are put at a place; parts at a saturated place; zeros over a whole buffer.
+use mathlib.Core.Path.{◌≡◌, refl}
+use mathlib.Core.List.{List, ◌++◌, append-nil}
 use Prim.Native.Nat.{ℕ, ◌-◌, ◌+◌, ◌^◌, ◌≤◌, ◌<◌}
 use native.Mathlib.Nat.{zero-add, add-sub_cancel_left}
 use Rattle.numbers.specs.Places.{stored, over, put}
-use Rattle.numbers.proofs.Lists.{stored_is, length_part, part_past, part_rest, stored_nil, stored_whole, stored_snoc, put_fits, put_not}
+use Rattle.numbers.proofs.Lists.{stored_is, length_part, part_past, put_fits}
 use mathlib.Core.Bool.{Bool, true, false}
-use native.Mathlib.Numerals.{add-one}
 use native.Mathlib.Omega.{arith}
 use lib.Dec.{leb}
-use lib.ListN.{length, get_or, set, take, drop, replicate, length-set}
-use lib.Seq.{take-suc, take_all, length-take-le, drop-drop, drop-length}
+use lib.ListN.{length, set, drop, replicate, length-set}
+use lib.Seq.{drop-drop, drop-length}
 use borrow.Author.Fill.{fill_none, fill_more}
 use Rattle.std.proofs.Common.{zero-le}
 use borrow.Author.Tests.{leb-true, leb-false}
 use borrow.Rule.Slice.PartMut.{put_mid}
 use Rattle.numbers.specs.Numbers.{part, num, saturated}
-
--- What there is of a part: nothing, all that follows, or the whole of it.
-module _ (l : List ℕ) (at count : ℕ) where
-  pub part_none : length l ≤ at → [] ≡ part l at count
-  part_none h = sym (part_past l at count h)
-
-  pub part_short : length l - at ≤ count → part l at (length l - at) ≡ part l at count
-  part_short h = rw (part_rest l at count (omega arith), part_rest l at (length l - at) (omega arith))
-
-  pub part_there : part l at (at + count - at) ≡ part l at count
-  part_there = rw add-sub_cancel_left
 
 -- No slice reaches a place that is saturated.
 pub part_saturated : (l : List ℕ) (p w : ℕ) → length l < 2 ^ 64 → part l (saturated p) w ≡ part l p w
@@ -41,24 +29,6 @@ part_saturated l p w h = by (leb p (2 ^ 64 - 1)) refl
 pub num_saturated : (l : List ℕ) (p w : ℕ) → length l < 2 ^ 64 → num l (saturated p) w ≡ num l p w
 unfolding num
 num_saturated l p w h = rw (part_saturated l p w h)
-
--- The loop of `copy`: the first i bytes are copied.
-abbrev pub Copied : List ℕ → List ℕ → List ℕ → ℕ → Type 0
-Copied to₀ from to i = (i ≤ length to₀) × (length to₀ ≡ length from) × (length to ≡ length to₀) × (to ≡ stored to₀ 0 (take i from))
-
-module _ (to₀ from : List ℕ) (same : length to₀ ≡ length from) where
-  pub copied-start : Copied to₀ from to₀ 0
-  copied-start = (zero-le, same, refl, rw stored_nil)
-
-  pub copied-turn : (to : List ℕ) (i : ℕ) → Copied to₀ from to i → i < length to₀ → Copied to₀ from (set to i (get_or from i 0)) (i + 1)
-  copied-turn to i inv h =
-      let l : length (take i from) ≡ i = length-take-le i from (omega arith) in
-      let s = stored_snoc to₀ 0 (take i from) (get_or from i 0) (rw (l, zero-add) h) in
-      (omega arith, same, rw length-set inv.2, rw (inv.3, add-one, take-suc from i 0 (omega arith)) (rw (l, zero-add) at s))
-
-  pub copied-end : (to : List ℕ) (i : ℕ) → Copied to₀ from to i → length to₀ ≤ i → to ≡ from
-  copied-end to i inv h =
-      rw (inv.3, take_all i from (omega arith), stored_whole to₀ from (omega arith))
 
 -- A loop that puts zeros over a whole buffer: the first i elements are 0.
 abbrev pub Cleared : List ℕ → List ℕ → ℕ → Type 0

@@ -3,16 +3,17 @@ use mathlib.Core.Path.{◌≡◌, refl}
 use mathlib.Core.Bool.{Bool, true, false}
 use mathlib.Core.List.{List, [], ◌∷◌, ◌++◌}
 use mathlib.Core.Logic.{◌⊎◌, inl, inr, ⊎_elim}
-use Prim.Native.Nat.{ℕ, zero, suc, ◌+◌, ◌-◌, ◌*◌, ◌/◌, ◌%◌, ◌^◌, ◌≤◌, ◌<◌}
-use native.Mathlib.Nat.{zero-add, suc-add, mul_comm, mul_assoc, mod-eq_of_lt, div-one, div-div-eq-div-mul, pow-zero, pow-suc, pow-succ', pow-le-pow_right, one-le-pow, not-le_of_lt}
-use native.Mathlib.Nat.{lt_of_not-le, le_trans, lt_of_lt_of_le, lt_of_le_of_lt, eq-or-lt_of_le, mul-suc, suc-mul, zero-mul, mul-le-mul, min-le_left, le-div_iff_mul-le, div-lt_iff_lt-mul}
+use Prim.Native.Nat.{ℕ, zero, suc, ◌+◌, ◌-◌, ◌*◌, ◌/◌, ◌%◌, ◌^◌, ◌≤◌, ◌<◌, max}
+use native.Mathlib.Nat.{zero-add, suc-add, mul_assoc, mod-eq_of_lt, div-one, div-div-eq-div-mul, pow-zero, pow-suc, pow-succ', pow-le-pow_right, one-le-pow, not-le_of_lt}
+use native.Mathlib.Nat.{lt_of_not-le, le_trans, lt_of_lt_of_le, lt_of_le_of_lt, eq-or-lt_of_le, mul-suc, suc-mul, min-le_left}
 use native.Mathlib.Omega.{arith}
 use lib.Arith.{mod-mul}
 use lib.Count.{count_leading_zeros, leading_top}
 use lib.Pow.{pow-add, pow_mono}
-use lib.Dec.{ltb, eqb, lit<}
+use lib.Dec.{ltb, lit<}
 use lib.ListN.{length, get_or, drop, length-take, get_or-eq_default}
 use borrow.Author.Tests.{ltb-true, ltb-false, lt-ltb, le-ltb, ne_eqb, eqb-true}
+use Rattle.std.specs.Int.{div_ceil}
 use Rattle.numbers.specs.Numbers.{le, unle, part, num, saturated, least_from, width, field_size}
 use Rattle.numbers.proofs.Lists.{length_part, get_d_part, part_add}
 
@@ -77,18 +78,18 @@ module _ (l : List ℕ) where
   unfolding num
   num_add p w v h = rw (← part_add l p w v, unle_append, length_part l p w h)
 
-  -- A field of bytes fits its width.
+  -- The bytes of a part are bytes, and a field of bytes fits its width.
+  pub part_bytes : (p w : ℕ) → ((i : ℕ) → get_or l i 0 < 256) → (i : ℕ) → get_or (part l p w) i 0 < 256
+  part_bytes p w h i =
+      ⊎_elim
+      (λ (g : i < w). rw (get_d_part l p w i 0 g) (h (p + i)))
+      (λ (g : w ≤ i). rw (get_or-eq_default (part l p w) 0 {n = i} (simp length-take (omega arith))) (lit< tt))
+      (lt_or_le i w)
+
   pub num_lt : (p w : ℕ) → ((i : ℕ) → get_or l i 0 < 256) → num l p w < 256 ^ w
   unfolding num
   num_lt p w h =
-      lt_of_lt_of_le (unle_lt (part l p w) bytes) (pow-le-pow_right (lit< tt) (simp length-take (min-le_left w (length (drop p l)))))
-    where
-      bytes : (i : ℕ) → get_or (part l p w) i 0 < 256
-      bytes i =
-          ⊎_elim
-          (λ (g : i < w). rw (get_d_part l p w i 0 g) (h (p + i)))
-          (λ (g : w ≤ i). rw (get_or-eq_default (part l p w) 0 {n = i} (simp length-take (omega arith))) (lit< tt))
-          (lt_or_le i w)
+      lt_of_lt_of_le (unle_lt (part l p w) (part_bytes p w h)) (pow-le-pow_right (lit< tt) (simp length-take (min-le_left w (length (drop p l)))))
 
 -- The first width from k on that holds x, k + f if none before it does: within these, it holds x unless it is the last, and no
 -- smaller one does.
@@ -146,18 +147,25 @@ pub pow_256 : (k : ℕ) → 256 ^ k ≡ 2 ^ (8 * k)
 pow_256 zero = refl
 pow_256 (suc k) = rw (pow-suc, pow_256 k, mul-suc 8 k, pow-add)
 
-pub width_bits : (x : ℕ) → x < 2 ^ 64 → (x ≡ 0 → ⊥) → (64 - count_leading_zeros 64 x + 7) / 8 ≡ width x
-width_bits x h ne =
+bytes_of_bits : (x : ℕ) → x < 2 ^ 64 → (x ≡ 0 → ⊥) → (64 - count_leading_zeros 64 x + 7) / 8 ≡ width x
+bytes_of_bits x h ne =
     let top = leading_top 64 x (omega arith) h in
     let up : width x ≤ top.0 / 8 + 1 = width_least x (top.0 / 8 + 1) (omega arith) (rw pow_256 (lt_of_lt_of_le top.3 (pow_mono (omega arith)))) in
     let down : top.0 < 8 * width x = lt_of_not-le (λ (g : 8 * width x ≤ top.0). not-le_of_lt (rw pow_256 at (width_holds x h)) (le_trans (pow_mono g) top.2)) in
     omega (arith, top.1)
 
+pub width_bits : (x : ℕ) → x < 2 ^ 64 → max (div_ceil (64 - count_leading_zeros 64 x) 8) 1 ≡ width x
+unfolding count_leading_zeros
+width_bits x h =
+    ⊎_elim
+    (λ (e : x < 1).
+    let zero : x ≡ 0 = omega arith in
+    rw zero (width_zero 0 refl))
+    (λ (l : 1 ≤ x). omega (arith, bytes_of_bits x h (λ e. omega arith), width_pos x))
+    (lt_or_le x 1)
+
 pub saturated_small : (x : ℕ) → x < 2 ^ 64 → saturated x ≡ x
 saturated_small x h = omega arith
-
-pub saturated_over : (x : ℕ) → 2 ^ 64 ≤ x → 2 ^ 64 - 1 ≡ saturated x
-saturated_over x h = omega arith
 
 pub saturated_mono : (x y : ℕ) → x ≤ y → saturated x ≤ saturated y
 saturated_mono x y h = omega arith
@@ -173,43 +181,8 @@ saturated_mul (suc a) b =
     (λ (h : 2 ^ 64 ≤ b). simp suc-mul (omega arith))
     (lt_or_le b (2 ^ 64))
 
-pub saturated_step : (a c p r m : ℕ) → p ≡ saturated (a * c) → r ≡ saturated (p + m) → r ≡ saturated (a * c + m)
-saturated_step a c p r m hp hr = omega arith
-
--- Whether a sum fits, by a difference, and whether a product does, by a quotient.
-module _ (a b : ℕ) where
-  pub sum_fits : b < 2 ^ 64 → a ≤ 2 ^ 64 - 1 - b → a + b < 2 ^ 64
-  sum_fits h l = omega arith
-
-  pub sum_over : 2 ^ 64 - 1 - b < a → 2 ^ 64 ≤ a + b
-  sum_over l = omega arith
-
-  pub small_product : a ≤ 2 ^ 32 - 1 → b ≤ 2 ^ 32 - 1 → a * b < 2 ^ 64
-  small_product h l = omega (arith, mul-le-mul h l)
-
-  pub zero_product : a ≡ 0 → 0 ≡ saturated (a * b)
-  zero_product e = rw (e, zero-mul)
-
-  pub product_fits : (a ≡ 0 → ⊥) → b ≤ (2 ^ 64 - 1) / a → a * b < 2 ^ 64
-  product_fits h l = rw mul_comm (omega (arith, (le-div_iff_mul-le {k = a} {x = b} {y = 2 ^ 64 - 1} (omega arith)).0 l))
-
-  pub product_over : (a ≡ 0 → ⊥) → (2 ^ 64 - 1) / a < b → 2 ^ 64 ≤ a * b
-  product_over h l = rw mul_comm (omega (arith, (div-lt_iff_lt-mul {k = a} {x = 2 ^ 64 - 1} {y = b} (omega arith)).0 l))
-
 -- The sizes of a field.
 module _ (s : ℕ) where
-  pub size_2 : s ≡ 2 → true ≡ field_size s
-  unfolding field_size
-  size_2 e = rw e
-
-  pub size_4 : s ≡ 4 → true ≡ field_size s
-  unfolding field_size
-  size_4 e = rw e
-
-  pub size_8 : (s ≡ 2 → ⊥) → (s ≡ 4 → ⊥) → eqb s 8 ≡ field_size s
-  unfolding field_size
-  size_8 h g = rw (ne_eqb s 2 h, ne_eqb s 4 g)
-
   pub field_size_le : field_size s ≡ true → s ≤ 8
   unfolding field_size
   field_size_le e =

@@ -1,46 +1,28 @@
--- `read_bytes`, whose loop goes down from the last byte, and `read_le`.
-use mathlib.Core.Path.{◌≡◌}
-use mathlib.Core.List.{List}
-use Prim.Native.Nat.{ℕ, suc, ◌+◌, ◌-◌, ◌*◌, ◌^◌, ◌≤◌, ◌<◌, min}
-use native.Mathlib.Nat.{le_refl, sub_self, sub-zero, pow-succ', pow-le-pow_right, lt_of_lt_of_le}
+-- `read_le`: a fold over the bytes, the highest first.
+use mathlib.Core.Path.{◌≡◌, refl}
+use mathlib.Core.List.{List, [], ◌∷◌, reverse}
+use Prim.Native.Nat.{ℕ, suc, ◌*◌, ◌%◌, ◌^◌, ◌≤◌, ◌<◌}
+use native.Mathlib.Nat.{pow-le-pow_right, lt_of_lt_of_le, mod-eq_of_lt}
 use native.Mathlib.Omega.{arith}
 use lib.Dec.{lit<}
-use lib.ListN.{length, get_or, take, drop}
-use Rattle.numbers.specs.Numbers.{unle, num}
-use Rattle.numbers.proofs.Lists.{part_cons, part_past, part_take, part_min}
+use lib.ListN.{length, get_or}
+use Rattle.std.specs.List.{fold}
+use Rattle.std.specs.Int.Bits.{bit_or}
+use Rattle.std.proofs.lemmas.Nat.{or_shifted}
+use Rattle.std.proofs.lemmas.List.Sums.{fold-append}
+use Rattle.std.proofs.lemmas.List.{reverse-append}
+use Rattle.numbers.specs.Numbers.{unle}
+use Rattle.numbers.proofs.Numbers.{unle_lt}
 
--- x is the number in the bytes from i on, below n.
-abbrev pub Read : List ℕ → ℕ → ℕ → ℕ → Type 0
-Read d n x i = (i ≤ n) × (x ≡ num d i (n - i)) × (x < 256 ^ (n - i))
+-- One byte more below the others.
+abbrev pub joined_below : ℕ → ℕ → ℕ
+joined_below x byte = bit_or (x * 2 ^ 8 % 2 ^ 64) byte
 
-pub read_start : (d : List ℕ) (n : ℕ) → Read d n 0 n
-unfolding num unle
-read_start d n = (le_refl n, rw sub_self, rw sub_self (lit< tt))
-
-pub read_room : (d : List ℕ) (n x i : ℕ) → Read d n x i → 0 < i → n ≤ 8 → x < 2 ^ 56
-read_room d n x i h p l = lt_of_lt_of_le h.2 (pow-le-pow_right (lit< tt) {j = 7} (omega arith))
-
-pub read_turn : (d : List ℕ) (n x i : ℕ) → Read d n x i → 0 < i → n ≤ length d → get_or d (i - 1) 0 < 256
-    → Read d n (256 * x + get_or d (i - 1) 0) (i - 1)
-unfolding num unle
-read_turn d n x i h p l b =
-    let e : n - (i - 1) ≡ suc (n - i) = omega arith in
-    let f : i - 1 + 1 ≡ i = omega arith in
-    (omega arith, rw (e, part_cons d (i - 1) (n - i) 0 (omega arith), f, ← h.1) (omega arith), rw (e, pow-succ') (omega arith))
-
-pub read_end : (d : List ℕ) (n x i : ℕ) → Read d n x i → i ≤ 0 → x ≡ num d 0 n
-read_end d n x i h l =
-    let e : i ≡ 0 = omega arith in
-    rw (e, sub-zero) at h.1
-
--- `read_le`: nothing from the end on, else the bytes that there are.
-module _ (d : List ℕ) (at w : ℕ) where
-  pub read_past : length d ≤ at → 0 ≡ num d at (min w 8)
-  unfolding num unle
-  read_past h = rw (part_past d at (min w 8) h)
-
-  pub read_part : (m n r : ℕ) → m ≡ min w 8 → n ≡ min m (length d - at)
-      → r ≡ num (take (length d - at) (drop at d)) 0 n → r ≡ num d at (min w 8)
-  unfolding num
-  read_part m n r hm hn hr =
-      rw (hr, part_take (drop at d) (length d - at) 0 n (omega arith), hn, hm, part_min)
+pub read_back : (l : List ℕ) → length l ≤ 8 → ((i : ℕ) → get_or l i 0 < 256) → fold joined_below 0 (reverse l) ≡ unle l
+unfolding unle
+read_back [] short bytes = refl
+read_back (x ∷ l) short bytes =
+    let room : unle l < 2 ^ 56 = lt_of_lt_of_le (unle_lt l (λ i. bytes (suc i))) (pow-le-pow_right (lit< tt) {j = 7} (omega arith)) in
+    let fits : unle l * 2 ^ 8 < 2 ^ 64 = omega arith in
+    let join = or_shifted (unle l) 8 x (bytes 0) in
+    rw (reverse-append (x ∷ []) l, fold-append joined_below 0 (reverse l) (x ∷ []), read_back l (omega arith) (λ i. bytes (suc i)), mod-eq_of_lt fits, join) (omega arith)

@@ -1,5 +1,5 @@
-// Numbers: little-endian in byte slices, parts of these and bytes put into them; the byte width of a count, saturated sums and products, and the
-// sizes that offsets and lengths may have.
+// Numbers: little-endian in byte slices, parts of these and items put into slices; the byte width of a count, and the sizes that offsets and
+// lengths may have.
 
 #![tactic(auto)]
 
@@ -12,25 +12,10 @@ ghost use Rattle.numbers.specs.Places.{put};
 pub fn read_le(data: &[u8], at: usize, width: usize) -> u64
     ensures { result ≡ num «data».now at (min width 8) }
 {
-    if data.len() <= at {
-        return 0;
-    }
-    let n = width.min(8).min(data.len() - at);
-    read_bytes(&data[at..], n)
-}
-
-// The number in the first n bytes.
-fn read_bytes(data: &[u8], n: usize) -> u64
-    requires { (n ≤ length «data».now) × (n ≤ 8) }
-    ensures { result ≡ num «data».now 0 n }
-{
-    let mut x: u64 = 0;
-    let mut i = n;
-    while 0 < i {
-        i -= 1;
-        x = 256 * x + (data[i] as u64);
-    }
-    x
+    part(data, at as u64, width.min(8) as u64)
+        .iter()
+        .rev()
+        .fold(0, |x: u64, byte| (x << 8) | u64::from(*byte))
 }
 
 // Puts x at `at`, lowest byte first, into `width` bytes, where these fit, and gives the place after them; else changes nothing and gives
@@ -38,36 +23,23 @@ fn read_bytes(data: &[u8], n: usize) -> u64
 pub fn write_le(data: &mut [u8], at: usize, x: u64, width: usize) -> usize
     ensures { («data».new ≡ put «data».old at (le width x)) × (result ≡ pick (leb (at + width) (length «data».old)) (at + width) at) }
 {
-    let len = data.len();
-    if len < at {
-        return at;
+    if at <= data.len() && width <= data.len() - at {
+        let mut rest = x;
+        for byte in &mut data[at..at + width] {
+            *byte = (rest % 256) as u8;
+            rest /= 256;
+        }
+        return at + width;
     }
-    if len - at < width {
-        return at;
-    }
-    let mut rest = x;
-    let mut i = 0;
-    while i < width {
-        data[at + i] = (rest % 256) as u8;
-        rest = rest / 256;
-        i += 1;
-    }
-    at + width
+    at
 }
 
 // The `count` bytes from `at` on, or as many as there are.
-pub fn part<'a>(data: &'a [u8], at: u64, count: u64) -> &'a [u8]
+pub fn part(data: &[u8], at: u64, count: u64) -> &[u8]
     ensures { result.now ≡ part «data».now at count }
 {
-    let len = data.len() as u64;
-    if len <= at {
-        return &data[0..0];
-    }
-    let from = at as usize;
-    if len - at <= count {
-        return &data[from..];
-    }
-    &data[from..from + (count as usize)]
+    let rest = &data[at.min(data.len() as u64) as usize..];
+    &rest[..count.min(rest.len() as u64) as usize]
 }
 
 // Puts items at `at` where they fit; else changes nothing.
@@ -82,33 +54,18 @@ pub fn put<T: Copy>(data: &mut [T], at: usize, items: &[T])
 }
 
 // The number of bytes that hold a count: 1 for zero.
+#[tactic(auto, using(crate::proofs::Numbers::width_bits))]
 pub fn bytes_for_max_records(max_nrec: u64) -> u8
     ensures { result ≡ width max_nrec }
 {
-    if max_nrec == 0 {
-        return 1;
-    }
-    let bits = 64 - u64::leading_zeros(max_nrec);
-    ((bits + 7) / 8) as u8
-}
-
-// a * b + c, saturated at 2^64 - 1: by the whole product, since the library's `saturating_mul` divides.
-pub fn saturating_mul_add(a: u64, b: u64, c: u64) -> u64
-    ensures { result ≡ saturated (a * b + c) }
-{
-    let (low, high) = a.carrying_mul(b, c);
-    if high == 0 { low } else { u64::MAX }
+    let bits = u64::BITS - max_nrec.leading_zeros();
+    bits.div_ceil(8).max(1) as u8
 }
 
 // Whether offsets or lengths may have this size.
+#[tactic(auto, unfolding(crate::specs::Numbers::field_size))]
 pub fn is_field_size(size: u8) -> bool
     ensures { result ≡ field_size size }
 {
-    if size == 2 {
-        return true;
-    }
-    if size == 4 {
-        return true;
-    }
-    size == 8
+    matches!(size, 2 | 4 | 8)
 }

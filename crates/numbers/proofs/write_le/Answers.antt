@@ -1,19 +1,17 @@
--- The loop of `write_le`: the lowest i bytes of x are stored, and the rest of x is left.
-use Rattle.numbers.proofs.Writing.{no_place, no_room, written_start, written_turn, written_end}
+-- `write_le` writes in the part that it lends, where the field fits.
 use native.Mathlib.Omega.{arith}
+use Rattle.std.proofs.Common.{ℕ, length-take, length-drop}
+use Rattle.numbers.proofs.Writing.{written_start, written_turn, written_end, not_written}
 use Rattle.numbers.proofs.write_le.Goals as goal
 
-pub returns-then-len-at : goal.returns-then-len-at
-returns-then-len-at c = no_place _ _ _ _ c.if-len-at.true
+pub loop-byte-init : goal.loop-byte-init
+loop-byte-init c = search written_start
 
-pub returns-then-len-at-2 : goal.returns-then-len-at-2
-returns-then-len-at-2 c = no_room _ _ _ _ c.if-len-at.false c.if-len-at-2.true
+pub loop-byte-preserved : goal.loop-byte-preserved
+loop-byte-preserved c = search written_turn
 
-pub loop-i-init : goal.loop-i-init
-loop-i-init c = search written_start
-
-pub loop-i-preserved : goal.loop-i-preserved
-loop-i-preserved c = written_turn _ _ _ _ _ _ _ c.loop-i.invariant (omega arith) c.loop-i-test.true
+pub returns-then-width-data : goal.returns-then-width-data
+returns-then-width-data c = written_end _ _ _ _ _ _ _ c.loop-byte.invariant (omega arith) (omega (arith, length-take {A = ℕ}, length-drop {A = ℕ}))
 
 pub returns : goal.returns
-returns c = written_end _ _ _ _ _ _ _ c.loop-i.invariant (omega arith) c.loop-i-test.false
+returns c = not_written _ _ _ _ (omega arith)
