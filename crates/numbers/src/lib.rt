@@ -20,6 +20,7 @@ pub fn read_le(data: &[u8], at: usize, width: usize) -> u64
 
 // Puts x at `at`, lowest byte first, into `width` bytes, where these fit, and gives the place after them; else changes nothing and gives
 // `at`.
+#[tactic(auto, using(crate::proofs::Writing::written_start, crate::proofs::Writing::written_end, crate::proofs::Writing::not_written))]
 pub fn write_le(data: &mut [u8], at: usize, x: u64, width: usize) -> usize
     ensures { («data».new ≡ put «data».old at (le width x)) × (result ≡ pick (leb (at + width) (length «data».old)) (at + width) at) }
 {
