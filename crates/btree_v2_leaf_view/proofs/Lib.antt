@@ -1,4 +1,3 @@
 -- The laws that the crate's proofs cite.
-mod Records
 pub mod Looking
 pub mod Bases

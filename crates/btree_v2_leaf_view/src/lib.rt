@@ -1,107 +1,44 @@
-// A borrowed look at a leaf's records, and one record copied out. The functions under those that take, make or hold a view take slices and numbers.
+// A borrowed look at a leaf's records, and one record copied out.
 
 #![tactic(auto)]
 
-ghost use Rattle.std.specs.Prelude.{◌≡◌, drop};
-ghost use Rattle.btree_v2_leaf_view.specs.Look.{look_test, bytes_if, record_seen, look_test_at, look_bytes_at, record_answer_at, record_exit_at};
-ghost use Rattle.refusal.specs.Answer.{verdict_of, put_answer_of};
+ghost use Rattle.std.specs.Prelude.{◌≡◌, [], IfOk};
+ghost use Rattle.btree_v2_leaf_view.specs.Look.{record_seen, look_test_at, look_bytes_at, record_answer_at, record_exit_at};
+ghost use Rattle.refusal.specs.Answer.{answer_of, put_answer_of};
 
-use refusal::{PutAnswer, Refusal, Verdict};
+use btree_v2_leaf::Leaf;
+use refusal::Refusal;
 
-// Document 01's borrowed look at one leaf's bytes.
+// The records of a leaf that passed its tests.
 #[derive(Clone, Copy)]
 pub struct LeafView<'a> {
-    // the records, end to end
+    // end to end
     pub records: &'a [u8],
     pub record_size: u16,
     pub count: u16,
 }
 
-// A view whose leaf was refused has no bytes.
-#[derive(Clone, Copy)]
-pub struct LeafAnswer<'a> {
-    pub verdict: Verdict,
-    pub view: LeafView<'a>,
-}
-
-// The tests of a look in a part of a file: a record has bytes, and the leaf's own.
-#[tactic(auto, using(crate::proofs::Records::look_no_bytes, crate::proofs::Records::look_tested))]
-fn check_part(part: &[u8], address: u64, count: u16, record_size: u16) -> Verdict
-    ensures { verdict_of result ≡ look_test part.now record_size address count }
-{
-    if record_size == 0 {
-        return Verdict::Refused(Refusal::ZeroRecordSize);
-    }
-    btree_v2_leaf::check_leaf(part, address, count, record_size)
-}
-
-// The tests of a look: the base is within the file, and those in the part from it on.
-pub fn check_view(file: &[u8], base: u64, address: u64, count: u16, record_size: u16) -> Verdict
-    ensures { verdict_of result ≡ look_test_at file.now base record_size address count }
-{
-    let within = read_checks::check_base(file, base);
-    let Verdict::Accepted = within else {
-        return within;
-    };
-    check_part(&file[base as usize..], address, count, record_size)
-}
-
-// The records of a leaf with this verdict: none where it is refused.
-fn records_of<'a>(
-    verdict: Verdict,
-    file: &'a [u8],
-    base: u64,
-    address: u64,
-    count: u16,
-    record_size: u16,
-) -> &'a [u8]
-    ensures { result.now ≡ bytes_if (verdict_of verdict) (drop base file.now) record_size address count }
-{
-    let Verdict::Accepted = verdict else {
-        return &file[0..0];
-    };
-    let first = numbers::saturating_add(address, format::PREFIX_SIZE);
-    let bytes = (count as u64) * (record_size as u64);
-    numbers::part(file, numbers::saturating_add(base, first), bytes)
-}
-
-// Record i of `count` records that stand end to end; empty where i is not below the count.
-#[tactic(auto, using(crate::proofs::Records::record_none, crate::proofs::Records::record_part))]
-fn record_of<'a>(records: &'a [u8], record_size: u16, count: u16, i: u64) -> &'a [u8]
-    ensures { result.now ≡ record_seen records.now record_size count i }
-{
-    if count as u64 <= i {
-        return &records[0..0];
-    }
-    numbers::part(records, i * (record_size as u64), record_size as u64)
-}
-
-impl<'a> LeafAnswer<'a> {
-    // A look at the leaf with `count` records at `address` of the part of the file from `base` on.
-    pub fn look(
-        file: &'a [u8],
-        base: u64,
-        address: u64,
-        count: u16,
-        record_size: u16,
-    ) -> LeafAnswer<'a>
-        ensures { (verdict_of result.verdict ≡ look_test_at file.now base record_size address count)
-            × (result.view.records.now ≡ look_bytes_at file.now base record_size address count) × (result.view.record_size ≡ record_size) × (result.view.count ≡ count) }
-    {
-        let verdict = check_view(file, base, address, count, record_size);
-        let records = records_of(verdict, file, base, address, count, record_size);
-        LeafAnswer {
-            verdict,
-            view: LeafView {
-                records,
-                record_size,
-                count,
-            },
-        }
-    }
-}
-
 impl<'a> LeafView<'a> {
+    // A look at a leaf of the part of the file from `base` on.
+    #[tactic(auto, unfolding(crate::specs::Look::look_test, crate::specs::Look::look_test_at, crate::specs::Look::look_bytes, crate::specs::Look::look_bytes_at, read_checks::specs::Base::on_part))]
+    pub fn new(file: &'a [u8], base: u64, leaf: Leaf) -> Result<LeafView<'a>, Refusal>
+        ensures tested { answer_of (λ _. []) result ≡ look_test_at file.now base leaf.record_size leaf.address leaf.count }
+        ensures records { IfOk result (λ view. view.records.now ≡ look_bytes_at file.now base leaf.record_size leaf.address leaf.count) }
+        ensures record_size { IfOk result (λ view. view.record_size ≡ leaf.record_size) }
+        ensures count { IfOk result (λ view. view.count ≡ leaf.count) }
+    {
+        let part = read_checks::part_from(file, base)?;
+        if leaf.record_size == 0 {
+            return Err(Refusal::ZeroRecordSize);
+        }
+        leaf.check(part)?;
+        Ok(LeafView {
+            records: leaf.records(part),
+            record_size: leaf.record_size,
+            count: leaf.count,
+        })
+    }
+
     pub fn count(self) -> u16
         ensures { result ≡ self.entry.count }
     {
@@ -109,36 +46,35 @@ impl<'a> LeafView<'a> {
     }
 
     // Record i, or an empty part where i is not below the count.
+    #[tactic(auto, unfolding(crate::specs::Look::record_seen))]
     pub fn record(self, i: u64) -> &'a [u8]
         ensures { result.now ≡ record_seen self.entry.records.now self.entry.record_size self.entry.count i }
     {
-        record_of(self.records, self.record_size, self.count, i)
+        if self.count as u64 <= i {
+            return &self.records[0..0];
+        }
+        let size = self.record_size as u64;
+        numbers::part(self.records, i * size, size)
     }
 }
 
-// Record `index` of the leaf at `address` of the part of the file from `base` on, copied to the front of the output: its length, 0 where the
-// index is not below the count.
+// Record `index` of a leaf of the part of the file from `base` on, copied to the front of the output: its length, 0 where the index is not
+// below the count.
+#[tactic(auto, using(numbers::proofs::Lists::put_fits, numbers::proofs::Copying::over_stored), unfolding(crate::specs::Look::look_test_at, crate::specs::Look::look_bytes_at, crate::specs::Look::record_answer, crate::specs::Look::record_answer_at, crate::specs::Look::record_exit, crate::specs::Look::record_exit_at, read_checks::specs::Base::on_part))]
 pub fn copy_leaf_record(
     file: &[u8],
     base: u64,
-    address: u64,
-    count: u16,
-    record_size: u16,
+    leaf: Leaf,
     index: u64,
     output: &mut [u8],
-) -> PutAnswer
-    ensures answered { put_answer_of result ≡ record_answer_at file.now base record_size address count index output.old }
-    ensures output_left { output.new ≡ record_exit_at file.now base record_size address count index output.old }
+) -> Result<u64, Refusal>
+    ensures answered { put_answer_of result ≡ record_answer_at file.now base leaf.record_size leaf.address leaf.count index output.old }
+    ensures output_left { output.new ≡ record_exit_at file.now base leaf.record_size leaf.address leaf.count index output.old }
 {
-    let verdict = check_view(file, base, address, count, record_size);
-    if let Verdict::Refused(cause) = verdict {
-        return PutAnswer::Refused(cause);
-    }
-    let records = records_of(verdict, file, base, address, count, record_size);
-    let record = record_of(records, record_size, count, index);
+    let record = LeafView::new(file, base, leaf)?.record(index);
     if output.len() < record.len() {
-        return PutAnswer::Refused(Refusal::OutputTooShort(output.len() as u64));
+        return Err(Refusal::OutputTooShort(output.len() as u64));
     }
-    numbers::put_bytes(output, 0, record);
-    PutAnswer::Put(record.len() as u64)
+    numbers::put(output, 0, record);
+    Ok(record.len() as u64)
 }
