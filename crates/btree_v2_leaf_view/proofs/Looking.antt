@@ -18,22 +18,14 @@ use Rattle.read_checks.proofs.Passing.{passed}
 use Rattle.btree_v2_leaf.proofs.Records.{leaf_there}
 
 -- Record i below the count, and from the count on.
-picked : (b : Bool) (x y : List ℕ) → b ≡ true → pick b x y ≡ x
-picked true x y e = refl
-picked false x y e = cc
-
-unpicked : (b : Bool) (x : List ℕ) → b ≡ false → pick b x [] ≡ []
-unpicked true x e = cc
-unpicked false x e = refl
-
 module _ (bytes : List ℕ) (rs n i : ℕ) where
   record_below : i < n → record_seen bytes rs n i ≡ part bytes (i * rs) rs
   unfolding record_seen
-  record_below h = picked (ltb i n) (part bytes (i * rs) rs) _ (lt-ltb i n h)
+  record_below h = rw (lt-ltb i n h)
 
   record_past : n ≤ i → record_seen bytes rs n i ≡ []
   unfolding record_seen
-  record_past h = unpicked (ltb i n) (part bytes (i * rs) rs) (le-ltb i n h)
+  record_past h = rw (le-ltb i n h)
 
 module _ (file : List ℕ) (rs a n : ℕ) where
   -- A look's tests are those of the leaf where a record has bytes.
