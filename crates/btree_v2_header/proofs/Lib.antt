@@ -1,3 +1,3 @@
 -- The laws that the crate's proofs cite.
-mod Headers
+pub mod Headers
 pub mod Bases

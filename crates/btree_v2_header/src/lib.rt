@@ -2,14 +2,15 @@
 
 #![tactic(auto)]
 
-ghost use Rattle.std.specs.Prelude.{◌≡◌, true, ◌+◌, ◌≤◌, length};
-ghost use Rattle.numbers.specs.Numbers.{field_size, num};
-ghost use Rattle.btree_v2_header.specs.Header.{with_base, header_at};
+ghost use Rattle.std.specs.Prelude.{◌≡◌, true, ◌+◌, ◌≤◌, length, MatchResult};
+ghost use Rattle.numbers.specs.Numbers.{field_size, part, num};
+ghost use Rattle.refusal.specs.Answer.{refusal_of};
+ghost use Rattle.btree_v2_header.specs.Header.{with_base, header_at, parsed};
 ghost use Rattle.btree_v2_header.specs.Answers.{Parses};
 ghost use Rattle.btree_v2_header.specs.Parsing.{ParsesPart, Begun, FieldsThere};
 
 use node_info::Geometry;
-use refusal::{Refusal, Verdict};
+use refusal::Refusal;
 
 // The header, as it stands in a file, and the base of that file.
 #[derive(Clone, Copy)]
@@ -26,144 +27,133 @@ pub struct BTreeV2Header {
     pub base: u64,
 }
 
-#[derive(Clone, Copy)]
-pub enum HeaderAnswer {
-    Parsed(BTreeV2Header),
-    Refused(Refusal),
-}
-
 impl BTreeV2Header {
     // The header at `offset` of the part of the file from `base` on, for offsets and lengths of these sizes.
+    #[tactic(auto, unfolding(crate::specs::Header::parsed_at, read_checks::specs::Base::on_part))]
     pub fn parse(
         file: &[u8],
         base: u64,
         offset: u64,
         offset_size: u8,
         length_size: u8,
-    ) -> HeaderAnswer
+    ) -> Result<BTreeV2Header, Refusal>
         ensures { Parses file.now base offset offset_size length_size result }
     {
-        if let Verdict::Refused(r) = read_checks::check_base(file, base) {
-            return HeaderAnswer::Refused(r);
-        }
-        parse_part(
-            &file[base as usize..],
+        let part = read_checks::part_from(file, base)?;
+        let header = HeaderAt {
+            part,
             base,
             offset,
             offset_size,
             length_size,
-        )
+        };
+        header.read()
     }
 }
 
 // The header at `offset` of the part of a file from `base` on. The base is only carried into the header.
-fn parse_part(part: &[u8], base: u64, offset: u64, offset_size: u8, length_size: u8) -> HeaderAnswer
-    ensures { ParsesPart part.now base offset offset_size length_size result }
-{
-    if let Verdict::Refused(r) = read_checks::ensure_len(part, offset, 4) {
-        return HeaderAnswer::Refused(r);
-    }
-    let at = offset as usize;
-    if !read_checks::has_signature(part, at, b'H', b'D') {
-        return HeaderAnswer::Refused(Refusal::InvalidBTreeV2Signature);
-    }
-    if let Verdict::Refused(r) = read_checks::ensure_len(part, offset, 16) {
-        return HeaderAnswer::Refused(r);
-    }
-    let version = part[at + 4];
-    if version != 0 {
-        return HeaderAnswer::Refused(Refusal::InvalidBTreeV2Version(version));
-    }
-    if !numbers::is_field_size(offset_size) {
-        return HeaderAnswer::Refused(Refusal::InvalidOffsetSize(offset_size));
-    }
-    parse_sized(part, base, offset, offset_size, length_size)
-}
-
-// The same, where the tests up to that of the offset size have passed.
-fn parse_sized(
-    part: &[u8],
+#[derive(Clone, Copy)]
+struct HeaderAt<'a> {
+    part: &'a [u8],
     base: u64,
     offset: u64,
     offset_size: u8,
     length_size: u8,
-) -> HeaderAnswer
-    requires { Begun part.now offset offset_size }
-    ensures { ParsesPart part.now base offset offset_size length_size result }
-{
-    let root_end = 16 + (offset_size as u64);
-    if let Verdict::Refused(r) = read_checks::ensure_len(part, offset, root_end) {
-        return HeaderAnswer::Refused(r);
-    }
-    if let Verdict::Refused(r) = read_checks::ensure_len(part, offset, root_end + 2) {
-        return HeaderAnswer::Refused(r);
-    }
-    if !numbers::is_field_size(length_size) {
-        return HeaderAnswer::Refused(Refusal::InvalidLengthSize(length_size));
-    }
-    let fields_end = root_end + 2 + (length_size as u64);
-    if let Verdict::Refused(r) = read_checks::ensure_len(part, offset, fields_end) {
-        return HeaderAnswer::Refused(r);
-    }
-    if let Verdict::Refused(r) = read_checks::ensure_len(part, offset, fields_end + 4) {
-        return HeaderAnswer::Refused(r);
-    }
-    let at = offset as usize;
-    let end = at + (fields_end as usize);
-    if let Verdict::Refused(r) = read_checks::check_checksum(part, at, end) {
-        return HeaderAnswer::Refused(r);
-    }
-    HeaderAnswer::Parsed(fields_at(part, base, at, offset_size, length_size))
 }
 
-// The fields of the header at `at`.
-fn fields_at(part: &[u8], base: u64, at: usize, offset_size: u8, length_size: u8) -> BTreeV2Header
-    requires { FieldsThere part.now at offset_size length_size }
-    ensures { result ≡ with_base base (header_at part.now at offset_size length_size) }
-{
-    let root_width = offset_size as usize;
-    BTreeV2Header {
-        tree_type: part[at + 5],
-        geometry: Geometry {
-            node_size: read_u32(part, at + 6),
-            record_size: read_u16(part, at + 10),
-            offset_size,
-        },
-        depth: read_u16(part, at + 12),
-        root_node_address: read_sized(part, at + 16, offset_size),
-        num_records_in_root: read_u16(part, at + 16 + root_width),
-        total_records: read_sized(part, at + 18 + root_width, length_size),
-        base,
+impl<'a> HeaderAt<'a> {
+    fn read(&self) -> Result<BTreeV2Header, Refusal>
+        ensures { ParsesPart self.now.part.now self.now.base self.now.offset self.now.offset_size self.now.length_size result }
+    {
+        self.check_start()?;
+        self.check_rest()?;
+        Ok(self.fields())
+    }
+
+    // The tests up to that of the offset size.
+    #[tactic(auto, using(crate::proofs::Headers::num_1), unfolding(crate::specs::Header::parsed))]
+    fn check_start(&self) -> Result<(), Refusal>
+        ensures { MatchResult result (λ passed. Begun self.now.part.now self.now.offset self.now.offset_size)
+            (λ cause. refusal_of cause ≡ parsed self.now.part.now self.now.offset self.now.offset_size self.now.length_size) }
+    {
+        read_checks::ensure_len(self.part, self.offset, 4)?;
+        let at = self.offset as usize;
+        if !read_checks::has_signature(self.part, at, b"BTHD") {
+            return Err(Refusal::InvalidBTreeV2Signature);
+        }
+        read_checks::ensure_len(self.part, self.offset, 16)?;
+        let version = self.part[at + 4];
+        if version != 0 {
+            return Err(Refusal::InvalidBTreeV2Version(version));
+        }
+        if !numbers::is_field_size(self.offset_size) {
+            return Err(Refusal::InvalidOffsetSize(self.offset_size));
+        }
+        Ok(())
+    }
+
+    // The tests from there on.
+    #[tactic(auto, using(crate::proofs::Headers::rest_is), unfolding(crate::specs::Header::parsed))]
+    fn check_rest(&self) -> Result<(), Refusal>
+        requires { Begun self.now.part.now self.now.offset self.now.offset_size }
+        ensures { MatchResult result (λ passed. FieldsThere self.now.part.now self.now.offset self.now.offset_size self.now.length_size)
+            (λ cause. refusal_of cause ≡ parsed self.now.part.now self.now.offset self.now.offset_size self.now.length_size) }
+    {
+        let root_end = 16 + self.offset_size as u64;
+        read_checks::ensure_len(self.part, self.offset, root_end)?;
+        read_checks::ensure_len(self.part, self.offset, root_end + 2)?;
+        if !numbers::is_field_size(self.length_size) {
+            return Err(Refusal::InvalidLengthSize(self.length_size));
+        }
+        let fields_end = root_end + 2 + self.length_size as u64;
+        read_checks::ensure_len(self.part, self.offset, fields_end)?;
+        read_checks::ensure_len(self.part, self.offset, fields_end + 4)?;
+        let at = self.offset as usize;
+        read_checks::check_checksum(self.part, at, at + fields_end as usize)
+    }
+
+    // The fields.
+    #[tactic(auto, using(crate::proofs::Headers::fields_are, crate::proofs::Headers::le_2, crate::proofs::Headers::le_4))]
+    fn fields(&self) -> BTreeV2Header
+        requires { FieldsThere self.now.part.now self.now.offset self.now.offset_size self.now.length_size }
+        ensures { result ≡ with_base self.now.base (header_at self.now.part.now self.now.offset self.now.offset_size self.now.length_size) }
+    {
+        let part = self.part;
+        let at = self.offset as usize;
+        let root_width = self.offset_size as usize;
+        BTreeV2Header {
+            tree_type: part[at + 5],
+            geometry: Geometry {
+                node_size: u32::from_le_bytes(bytes_at(part, at + 6)),
+                record_size: u16::from_le_bytes(bytes_at(part, at + 10)),
+                offset_size: self.offset_size,
+            },
+            depth: u16::from_le_bytes(bytes_at(part, at + 12)),
+            root_node_address: read_sized(part, at + 16, self.offset_size),
+            num_records_in_root: u16::from_le_bytes(bytes_at(part, at + 16 + root_width)),
+            total_records: read_sized(part, at + 18 + root_width, self.length_size),
+            base: self.base,
+        }
     }
 }
 
-// The number in the two bytes at `at`.
-fn read_u16(file: &[u8], at: usize) -> u16
-    requires { at + 2 ≤ length file.now }
-    ensures { result ≡ num file.now at 2 }
+// The N bytes at `at`.
+fn bytes_at<const N: usize>(data: &[u8], at: usize) -> [u8; N]
+    requires { at + N ≤ length «data».now }
+    ensures { result ≡ part «data».now at N }
 {
-    file[at] as u16 + 256 * (file[at + 1] as u16)
-}
-
-// The number in the four bytes at `at`.
-fn read_u32(file: &[u8], at: usize) -> u32
-    requires { at + 4 ≤ length file.now }
-    ensures { result ≡ num file.now at 4 }
-{
-    read_u16(file, at) as u32 + 65536 * (read_u16(file, at + 2) as u32)
+    *data[at..].first_chunk::<N>().unwrap()
 }
 
 // The number in the two, four or eight bytes at `at`.
-fn read_sized(file: &[u8], at: usize, size: u8) -> u64
-    requires { (field_size size ≡ true) × (at + size ≤ length file.now) }
-    ensures { result ≡ num file.now at size }
+#[tactic(auto, using(crate::proofs::Headers::eight_there, crate::proofs::Headers::sized_2, crate::proofs::Headers::sized_4, crate::proofs::Headers::sized_8))]
+fn read_sized(data: &[u8], at: usize, size: u8) -> u64
+    requires { (field_size size ≡ true) × (at + size ≤ length «data».now) }
+    ensures { result ≡ num «data».now at size }
 {
-    if size == 2 {
-        return read_u16(file, at) as u64;
+    match size {
+        2 => u16::from_le_bytes(bytes_at(data, at)) as u64,
+        4 => u32::from_le_bytes(bytes_at(data, at)) as u64,
+        _ => u64::from_le_bytes(bytes_at(data, at)),
     }
-    let low = read_u32(file, at) as u64;
-    if size == 4 {
-        return low;
-    }
-    low + 0x1_0000_0000 * (read_u32(file, at + 4) as u64)
 }
