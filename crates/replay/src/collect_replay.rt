@@ -1,75 +1,38 @@
 // The stored trees, good and damaged, run through `btree_v2_collect::collect::collect_btree_v2_records`, and a leaf without its checksum; each answer
 // is counted once.
+
 ghost use Rattle.std.specs.Prelude.{◌≡◌, ◌+◌, ◌≤◌, ◌<◌, length};
 
 use crate::collect_answers::{COLLECT_BYTES, COLLECT_ROWS};
 use crate::rows;
 use crate::rows::MARK;
 use crate::tally::Tally;
-use btree_v2_collect::{Collected, collect};
+use btree_v2_collect::collect;
 use btree_v2_header::BTreeV2Header;
 use node_info::Geometry;
 
-// The seven numbers of the answer.
-fn numbers(collected: Collected) -> [u64; 7]
-    ensures { 7 ≡ length result }
-{
-    let mut numbers = [0; 7];
-    answers::put_collected(&mut numbers, collected);
-    numbers
-}
-
-// Whether collecting the tree of a row from this file has its seven numbers and leaves the bytes that are due in the output.
-fn leaves(list: &[u64; 972], row: usize, file: &[u8], output: &mut [u8], due: &[u8]) -> bool
-    requires { row < 54 }
-{
-    let at = 18 * row;
-    let collected = collect::collect_btree_v2_records(file, rows::header(list, at + 1), output);
-    let found = numbers(collected);
-    if !rows::stand_at(list, at + 11, &found) {
-        return false;
-    }
-    &*output == due
-}
-
-// The same for the stored bytes: those from `at` to `middle` are the file, those from there to `end` are due in the output.
-fn agrees(
-    list: &[u64; 972],
-    row: usize,
-    bytes: &[u8; 6052],
-    at: usize,
-    middle: usize,
-    end: usize,
-) -> bool
-    requires { (row < 54) × (at ≤ middle) × (middle ≤ end) × (end ≤ 6052) × (end ≤ middle + 512) }
-{
-    let mut output = [MARK; 512];
-    let n = end - middle;
-    let all = &bytes[..];
-    leaves(
-        list,
-        row,
-        &all[at..middle],
-        &mut output[..n],
-        &all[middle..end],
-    )
+// Whether collecting the tree of a row has its seven numbers and leaves the bytes that are due in the output; the file and those are the next
+// of the stored bytes.
+fn agrees(row: &[u64; 18], bytes: &mut &[u8]) -> bool {
+    let file = rows::next_part(bytes, 1024, row[0]);
+    let due = rows::next_part(bytes, 512, row[10]);
+    let mut array = [MARK; 512];
+    let output = &mut array[..due.len()];
+    let collected = collect::collect_btree_v2_records(file, rows::header(&row[1..]), output);
+    let mut found = [0; 7];
+    answers::put_collected(&mut found, collected);
+    found[..] == row[11..] && &*output == due
 }
 
 // The stored answers.
 pub(crate) fn stored() -> Tally
     ensures { result.agreed + result.differed ≡ 54 }
 {
-    let list = COLLECT_ROWS;
-    let bytes = COLLECT_BYTES;
-    let mut tally = Tally::new();
-    let mut at = 0;
-    for row in 0..54 {
-        let middle = rows::end(at, 6052, 1024, list[18 * row]);
-        let end = rows::end(middle, 6052, 512, list[18 * row + 10]);
-        tally = tally.with(agrees(&list, row, &bytes, at, middle, end));
-        at = end;
-    }
-    tally
+    let mut bytes = &COLLECT_BYTES[..];
+    Tally::of(
+        COLLECT_ROWS.as_chunks::<18>().0,
+        |row| agrees(row, &mut bytes),
+    )
 }
 
 // Whether collecting from a file that is one leaf of one record of 8 bytes has these numbers and this output.
@@ -90,11 +53,9 @@ fn leaf(file: &[u8], due: [u64; 7], record: &[u8]) -> bool {
     };
     let mut output = [MARK; 8];
     let collected = collect::collect_btree_v2_records(file, header, &mut output);
-    let found = numbers(collected);
-    if !rows::stand_at(&due, 0, &found) {
-        return false;
-    }
-    output.as_slice() == record
+    let mut found = [0; 7];
+    answers::put_collected(&mut found, collected);
+    found == due && &output[..] == record
 }
 
 // A leaf whose file ends 3 bytes after its records ends early; with a byte more, its checksum differs.

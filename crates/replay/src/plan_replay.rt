@@ -1,5 +1,6 @@
 // The stored plans, run through `plan::BTreeV2Plan::new`; each answer is counted once.
-ghost use Rattle.std.specs.Prelude.{◌≡◌, ◌+◌, ◌<◌};
+
+ghost use Rattle.std.specs.Prelude.{◌≡◌, ◌+◌};
 
 use crate::plan_answers::PLANS;
 use crate::rows;
@@ -7,24 +8,16 @@ use crate::tally::Tally;
 use plan::BTreeV2Plan;
 
 // Whether the plan of a row has its five numbers.
-fn agrees(plans: &[u64; 2772], row: usize) -> bool
-    requires { row < 308 }
-{
-    let at = 9 * row;
-    let geometry = rows::geometry(plans[at + 2], plans[at + 1], plans[at + 3]);
-    let answer = BTreeV2Plan::new(plans[at], geometry);
-    let numbers = rows::of_plan(answer);
-    rows::stand_at(plans, at + 4, &numbers)
+fn agrees(row: &[u64; 9]) -> bool {
+    let answer = BTreeV2Plan::new(row[0], rows::geometry(row[2], row[1], row[3]));
+    let mut found = [0; 5];
+    answers::put_plan(&mut found, answer);
+    found[..] == row[4..]
 }
 
 // The stored answers.
 pub(crate) fn stored() -> Tally
     ensures { result.agreed + result.differed ≡ 308 }
 {
-    let plans = PLANS;
-    let mut tally = Tally::new();
-    for row in 0..308 {
-        tally = tally.with(agrees(&plans, row));
-    }
-    tally
+    Tally::of(PLANS.as_chunks::<9>().0, agrees)
 }

@@ -1,15 +1,16 @@
-// The numbers of a stored row, and how they are held against those that a call gives.
-ghost use Rattle.std.specs.Prelude.{◌≡◌, true, ℕ, ◌+◌, ◌%◌, ◌≤◌, ◌<◌, length, get_or};
+// The numbers and bytes of a stored row, and how they are held against what a call gives.
+
+ghost use Rattle.std.specs.Prelude.{◌≡◌, ◌+◌, ◌*◌, ◌%◌, ◌≤◌, ◌<◌, ◌++◌, length};
+ghost use Rattle.replay.specs.Inputs.{byte_of, bytes_of};
 
 use btree_v2_header::BTreeV2Header;
 use node_info::Geometry;
-use plan::PlanAnswer;
-use refusal::PutAnswer;
 
 // Every byte of a lent output before the call.
 pub(crate) const MARK: u8 = 238;
 
 // A stored number as a byte, and as a number of 16 and of 32 bits; of a number above that, as the C functions cut it.
+// Three functions: no trait of the library cuts a number, and one of our own with three impls is no plainer.
 pub(crate) fn byte(number: u64) -> u8
     ensures { result ≡ number % 256 }
 {
@@ -39,80 +40,40 @@ pub(crate) fn geometry(node_size: u64, record_size: u64, offset_size: u64) -> Ge
     }
 }
 
-// Stored numbers from `at` on as a header: tree type, node size, record size, depth, root address, root records, records in all, base, offset
+// The first stored numbers as a header: tree type, node size, record size, depth, root address, root records, records in all, base, offset
 // size.
-pub(crate) fn header(list: &[u64], at: usize) -> BTreeV2Header
-    requires { at + 9 ≤ length list.now }
+pub(crate) fn header(numbers: &[u64]) -> BTreeV2Header
+    requires { 9 ≤ length numbers.now }
 {
-    let geometry = geometry(list[at + 1], list[at + 2], list[at + 8]);
     BTreeV2Header {
-        tree_type: byte(list[at]),
-        geometry,
-        depth: number16(list[at + 3]),
-        root_node_address: list[at + 4],
-        num_records_in_root: number16(list[at + 5]),
-        total_records: list[at + 6],
-        base: list[at + 7],
+        tree_type: byte(numbers[0]),
+        geometry: geometry(numbers[1], numbers[2], numbers[8]),
+        depth: number16(numbers[3]),
+        root_node_address: numbers[4],
+        num_records_in_root: number16(numbers[5]),
+        total_records: numbers[6],
+        base: numbers[7],
     }
 }
 
-// A stored length, at most that of the array in use.
-pub(crate) fn at_most(most: usize, number: u64) -> usize
-    requires { most < 4294967296 }
-    ensures { result ≤ most }
+// Takes the next part off the front of the stored bytes: of its stored length, of `most` at the most, or what there is.
+pub(crate) fn next_part<'a>(bytes: &mut &'a [u8], most: usize, stored: u64) -> &'a [u8]
+    ensures front { bytes.old.now ≡ result.now ++ bytes.new.now }
+    ensures bound { length result.now ≤ most }
 {
-    if most as u64 <= number {
-        return most;
+    let n = stored.min(most as u64).min(bytes.len() as u64) as usize;
+    let (part, rest) = bytes.split_at(n);
+    *bytes = rest;
+    part
+}
+
+// The input that belongs to a number n: byte i is (7 * i + 13 * n + 1) mod 256.
+pub(crate) fn input<const N: usize>(n: u64) -> [u8; N]
+    ensures { result ≡ bytes_of n N }
+{
+    let mut bytes = [0; N];
+    for i in 0..N {
+        bytes[i] = ((7 * (i as u64 % 256) + 13 * (n % 256) + 1) % 256) as u8;
     }
-    number as usize
-}
-
-// Where the part that begins at `at` of `all` bytes and has a stored length, at most `most`, ends.
-pub(crate) fn end(at: usize, all: usize, most: usize, number: u64) -> usize
-    requires { (at ≤ all) × (all < 65536) × (most < 65536) }
-    ensures { (at ≤ result) × (result ≤ all) × (result ≤ at + most) }
-{
-    let length = at_most(most, number);
-    if all - at < length {
-        return all;
-    }
-    at + length
-}
-
-// Whether the numbers stand in the list from `at` on.
-pub(crate) fn stand_at(list: &[u64], at: usize, numbers: &[u64]) -> bool
-    requires { at + length numbers.now ≤ length list.now }
-    ensures { result ≡ true → (k : ℕ) → k < length numbers.now → get_or list.now (at + k) 0 ≡ get_or numbers.now k 0 }
-{
-    let mut i = 0;
-    while i < numbers.len() {
-        if list[at + i] != numbers[i] {
-            return false;
-        }
-        i += 1;
-    }
-    true
-}
-
-// Whether these are the five numbers of an answer.
-pub(crate) fn are(numbers: [u64; 5], due: [u64; 5]) -> bool {
-    stand_at(&due, 0, &numbers)
-}
-
-// The five numbers of the answer of a plan or a write.
-pub(crate) fn of_plan(answer: PlanAnswer) -> [u64; 5]
-    ensures { 5 ≡ length result }
-{
-    let mut numbers = [0; 5];
-    answers::put_plan(&mut numbers, answer);
-    numbers
-}
-
-// The three numbers of the answer of a call that puts bytes out.
-pub(crate) fn of_put(answer: PutAnswer) -> [u64; 3]
-    ensures { 3 ≡ length result }
-{
-    let mut numbers = [0; 3];
-    answers::put_length(&mut numbers, answer);
-    numbers
+    bytes
 }

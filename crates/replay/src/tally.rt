@@ -1,6 +1,6 @@
 // The count of a list's answers: how many agreed and how many differed, and the line that says so.
 
-ghost use Rattle.std.specs.Prelude.{◌≡◌, ◌+◌, ◌<◌};
+ghost use Rattle.std.specs.Prelude.{◌≡◌, ◌+◌, ◌<◌, length};
 ghost use Rattle.replay.specs.Counted.{counted};
 
 use std::io;
@@ -25,18 +25,31 @@ impl Tally {
     pub(crate) fn with(self, agrees: bool) -> Self
         requires { self.agreed + self.differed < 65536 }
         ensures value { result ≡ counted agrees self }
-        ensures differed_value { result.agreed + result.differed ≡ self.agreed + self.differed + 1 }
+        ensures sum { result.agreed + result.differed ≡ self.agreed + self.differed + 1 }
     {
-        if agrees {
-            return Tally {
+        match agrees {
+            true => Tally {
                 agreed: self.agreed + 1,
-                differed: self.differed,
-            };
+                ..self
+            },
+            false => Tally {
+                differed: self.differed + 1,
+                ..self
+            },
         }
-        Tally {
-            agreed: self.agreed,
-            differed: self.differed + 1,
+    }
+
+    // Counts each row once: whether its answer agrees.
+    pub(crate) fn of<T, F: FnMut(&T) -> bool>(rows: &[T], mut agrees: F) -> Self
+        requires few { length rows.now < 65536 }
+        requires calls { F.IsAlwaysCallable agrees }
+        ensures { result.agreed + result.differed ≡ length rows.now }
+    {
+        let mut tally = Tally::new();
+        for row in rows {
+            tally = tally.with(agrees(row));
         }
+        tally
     }
 
     // Writes the list's name and the two counts, as a line.

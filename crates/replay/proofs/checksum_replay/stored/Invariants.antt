@@ -1,10 +1,6 @@
--- The loop of `stored`: n answers are counted.
-use mathlib.Core.Path.{◌≡◌}
-use Prim.Native.Nat.{◌+◌, ◌-◌, ◌≤◌}
+-- The loop of `stored` counts each answer once.
+use Rattle.std.proofs.Common.{◌≡◌, ◌+◌}
 use Rattle.replay.proofs.checksum_replay.stored.Given as goal
 
 abbrev pub invariant-loop-n : goal.invariant-loop-n
-invariant-loop-n l = (l.n ≤ 61) × (l.tally.agreed + l.tally.differed ≡ l.n)
-
-abbrev pub decreases-loop-n : goal.decreases-loop-n
-decreases-loop-n l = 61 - l.n
+invariant-loop-n l = l.tally.agreed + l.tally.differed ≡ l.n

@@ -1,7 +1,0 @@
--- The records that `write` lends are the first of the array.
-use native.Mathlib.Omega.{arith}
-use lib.ListN.{length-take}
-use Rattle.replay.proofs.image_replay.write.Goals as goal
-
-pub slice_bounds-write-end : goal.slice_bounds-write-end
-slice_bounds-write-end c = simp length-take (omega arith)
