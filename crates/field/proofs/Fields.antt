@@ -13,7 +13,7 @@ use Rattle.field.specs.declared.Field.{Field}
 use Rattle.field.specs.Field.{number_field, number_at}
 
 module _ (f : Field) (rs : ℕ) where
-  -- `is_number_field`: no byte, too many, or the field's end beside the record's.
+  -- `is_in`: no byte, too many, or the field's end beside the record's.
   pub field_empty : f.width < 1 → false ≡ number_field f rs
   unfolding number_field
   field_empty h = rw (lt-leb 1 f.width h)
@@ -46,7 +46,7 @@ module _ (f : Field) (rs : ℕ) where
       by true false u a b c h = absurd (true≢false (sym h))
       by false t u a b c h = absurd (true≢false (sym h))
 
--- What `read_number` gives is the field's own number where it has 8 bytes at most.
+-- What `read` gives is the field's own number where it has 8 bytes at most.
 pub number_is : (bytes : List ℕ) (f : Field) (p : ℕ) → f.width ≤ 8 → num bytes (p + f.start) (min f.width 8) ≡ number_at bytes f p
 unfolding number_at
 number_is bytes f p few = rw (min-eq_left few)

@@ -1,9 +1,9 @@
 -- A number read from 8 bytes at once: the bytes, and the low ones of them.
-use mathlib.Core.Path.{◌≡◌, refl, sym, ◌∙◌}
+use mathlib.Core.Path.{◌≡◌, refl, ◌∙◌}
 use mathlib.Core.Logic.{⊎_elim}
 use mathlib.Core.List.{List}
 use Prim.Native.Nat.{ℕ, ◌+◌, ◌-◌, ◌*◌, ◌/◌, ◌%◌, ◌^◌, ◌≤◌, ◌<◌, min}
-use native.Mathlib.Nat.{add-zero, mul_comm, add_comm, mod-eq_of_lt, mod-one, add-mul-mod_self_left}
+use native.Mathlib.Nat.{add-zero, mul_comm, add_comm, mod-eq_of_lt, add-mul-mod_self_left}
 use native.Mathlib.Omega.{arith}
 use lib.Dec.{leb}
 use lib.Pow.{shl-shr, field}
@@ -41,15 +41,11 @@ eight_there l y first =
     let whole : part y 0 8 ≡ part l 0 8 = rw first.same (part_part l 0 8 0 8 (omega arith)) in
     rw (le-leb 8 (length l) first.enough, sum_8 y long, whole)
 
--- `low_bytes`: nothing, or x without the bits above.
-module _ (x w : ℕ) where
-  pub low_none : w ≡ 0 → 0 ≡ x % 256 ^ min w 8
-  low_none e = rw e (sym (mod-one x))
-
-  pub low_some : (m : ℕ) → m ≡ min w 8 → x * 2 ^ (8 * (8 - m)) % 2 ^ 64 / 2 ^ (8 * (8 - m)) ≡ x % 256 ^ min w 8
-  low_some m e =
-      let all : 8 * m + 8 * (8 - m) ≡ 64 = omega arith in
-      rw (← e, pow_256) (rw (all, shl-shr) at (field (x * 2 ^ (8 * (8 - m))) (8 * m) (8 * (8 - m))))
+-- `low_bytes`: x without the bits above.
+pub low_some : (x w m : ℕ) → m ≡ min w 8 → x * 2 ^ (8 * (8 - m)) % 2 ^ 64 / 2 ^ (8 * (8 - m)) ≡ x % 256 ^ min w 8
+low_some x w m e =
+    let all : 8 * m + 8 * (8 - m) ≡ 64 = omega arith in
+    rw (← e, pow_256) (rw (all, shl-shr) at (field (x * 2 ^ (8 * (8 - m))) (8 * m) (8 * (8 - m))))
 
 -- The number in the first m of m + v bytes.
 num_low : (l : List ℕ) (p m v : ℕ) → ((i : ℕ) → get_or l i 0 < 256) → num l p (m + v) % 256 ^ m ≡ num l p m
@@ -66,7 +62,7 @@ num_low l p m v bytes =
     below : num l p m % 256 ^ m ≡ num l p m
     below = mod-eq_of_lt (num_lt l p m bytes)
 
--- `read_number`, at the place, which is saturated.
+-- `read`, at the place, which is saturated.
 module _ (d : List ℕ) (p at w : ℕ) (place : at ≡ saturated p) (small : length d < 2 ^ 64) where
   -- Of the last bytes of fewer than 8.
   pub number_short : (r : ℕ) → r ≡ num d at (min w 8) → r ≡ num d p (min w 8)

@@ -7,6 +7,6 @@ use Rattle.field.specs.declared.Field.{Field}
 unfoldable pub number_field : Field → ℕ → Bool
 number_field f rs = (leb 1 f.width && leb f.width 8) && leb (f.start + f.width) rs
 
--- Its number in the record at place p of some bytes, low byte first. (`read_number` gives it where the width is 8 at most.)
+-- Its number in the record at place p of some bytes, low byte first. (`read` gives it where the width is 8 at most.)
 unfoldable pub number_at : List ℕ → Field → ℕ → ℕ
 number_at bytes f p = num bytes (p + f.start) f.width

@@ -13,30 +13,32 @@ pub struct Field {
     pub width: u64,
 }
 
-// Whether the field has 1 to 8 bytes, and a record of this size has them all.
-#[tactic(auto, using(crate::proofs::Fields::field_empty, crate::proofs::Fields::field_wide, crate::proofs::Fields::field_ends))]
-pub fn is_number_field(field: Field, record_size: u16) -> bool
-    ensures { result ≡ number_field field record_size }
-{
-    1 <= field.width
-        && field.width <= 8
-        && field.start.saturating_add(field.width) <= record_size as u64
-}
-
-// The field's number in the record at `place`; of a field that runs past the end of the data, its bytes before the end. A width above 8
-// counts as 8. It is kept of eight bytes by two shifts, where there are eight: of those from the field's start on, or of the data's last.
-#[tactic(auto, using(crate::proofs::Reading::number_short, crate::proofs::Reading::number_of_eight))]
-pub fn read_number(data: &[u8], field: Field, place: u64) -> u64
-    ensures { result ≡ num «data».now (place + field.start) (min field.width 8) }
-{
-    let at = place.saturating_add(field.start) as usize;
-    let len = data.len();
-    if len < 8 || len <= at {
-        return numbers::read_le(data, at, field.width as usize);
+impl Field {
+    // Whether the field has 1 to 8 bytes, and a record of this size has them all.
+    #[tactic(auto, using(crate::proofs::Fields::field_empty, crate::proofs::Fields::field_wide, crate::proofs::Fields::field_ends))]
+    pub fn is_in(self, record_size: u16) -> bool
+        ensures { result ≡ number_field self record_size }
+    {
+        1 <= self.width
+            && self.width <= 8
+            && self.start.saturating_add(self.width) <= record_size as u64
     }
-    let first = at.min(len - 8);
-    let eight = read_eight(&data[first..]) >> (8 * (at - first));
-    low_bytes(eight, field.width)
+
+    // The field's number in the record at `place`; of a field that runs past the end of the data, its bytes before the end. A width above 8
+    // counts as 8. It is kept of eight bytes by two shifts, where there are eight: of those from the field's start on, or of the data's last.
+    #[tactic(auto, using(crate::proofs::Reading::number_short, crate::proofs::Reading::number_of_eight))]
+    pub fn read(self, data: &[u8], place: u64) -> u64
+        ensures { result ≡ num «data».now (place + self.start) (min self.width 8) }
+    {
+        let at = place.saturating_add(self.start) as usize;
+        let len = data.len();
+        if len < 8 || len <= at {
+            return numbers::read_le(data, at, self.width as usize);
+        }
+        let first = at.min(len - 8);
+        let eight = read_eight(&data[first..]) >> (8 * (at - first));
+        low_bytes(eight, self.width)
+    }
 }
 
 // The number in the first 8 bytes; 0 where there are fewer.
