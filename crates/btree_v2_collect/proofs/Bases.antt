@@ -1,20 +1,18 @@
 -- Collecting with a base: the whole call, base 0, a block in front, and a base beyond the file.
-use mathlib.Core.Path.{◌≡◌, refl, ◌∙◌}
+use Rattle.std.specs.Prelude.{Err}
+use mathlib.Core.Path.{◌≡◌, refl}
 use mathlib.Core.Bool.{Bool, true, false}
 use mathlib.Core.List.{List, [], ◌++◌}
-use Prim.Native.Nat.{ℕ, ◌-◌, ◌*◌, ◌≤◌, ◌<◌, zero-le}
+use Prim.Native.Nat.{ℕ, ◌*◌, ◌≤◌, ◌<◌, zero-le}
 use native.Mathlib.Nat.{zero-mul}
 use native.Mathlib.Omega.{arith}
 use lib.Dec.{leb}
 use lib.ListN.{length, drop}
 use borrow.Author.Tests.{leb-true}
-use Rattle.numbers.specs.Numbers.{part}
-use Rattle.refusal.specs.Answer.{or_else, verdict_of}
-use Rattle.refusal.specs.declared.Refusal.{Refusal}
-use Rattle.refusal.specs.declared.Verdict.{Verdict}
-use Rattle.refusal.specs.declared.Verdict.TheVariants.{Accepted, Refused}
-use Rattle.read_checks.specs.Base.{on_part, base_test}
-use Rattle.read_checks.proofs.Base.{on_part_by, on_part_within, on_part_beyond, on_part_whole, on_part_behind, lent_part, base_within, base_beyond, refused_by_18}
+use Rattle.refusal.specs.Answer.{or_else}
+use Rattle.read_checks.specs.Base.{on_part}
+use Rattle.read_checks.proofs.Base.{on_part_by, on_part_within, on_part_beyond, on_part_whole, on_part_behind}
+use Rattle.refusal.specs.declared.Refusal.TheVariants.{BaseBeyondFile}
 use Rattle.btree_v2_header.specs.Header.{with_base}
 use Rattle.btree_v2_header.specs.declared.BTreeV2Header.{BTreeV2Header}
 use Rattle.btree_v2_collect.specs.Walk.{Counts, fine, stopped, no_counts}
@@ -75,16 +73,14 @@ pub collected_based : (file : List ℕ) (h : BTreeV2Header) (base : ℕ) (out : 
 unfolding collected
 collected_based file h base out = refl
 
--- The call, by the verdict on the base.
-module _ (file : List ℕ) (h : BTreeV2Header) (out : List ℕ) (v : Verdict) (code : verdict_of v ≡ base_test file h.base) where
-  pub ends_beyond : (q : Refusal) → v ≡ Refused q → (r : Collected) → r ≡ nothing_read v → Ends (collected_at file h out) r out
-  ends_beyond q e =
-      ends_so v out _ (collected_beyond h out file (base_beyond file h.base v code q e) ∙ rw (e, refused_by_18 file h.base v code q e))
+-- The call, by whether there is a part from the base on.
+module _ (file : List ℕ) (h : BTreeV2Header) (out : List ℕ) where
+  pub ends_beyond : length file < h.base → Ends (collected_at file h out) (nothing_read (Err BaseBeyondFile)) out
+  ends_beyond beyond = ends_so (Err BaseBeyondFile) out _ (collected_beyond h out file beyond)
 
-  pub ends_part : v ≡ Accepted → (r : Collected) (exit : List ℕ) → Ends (collected (part file h.base (length file - h.base)) h out) r exit
+  pub ends_part : h.base ≤ length file → (part : List ℕ) → part ≡ drop h.base file → (r : Collected) (o exit : List ℕ) → exit ≡ o → Ends (collected part h out) r o
       → Ends (collected_at file h out) r exit
-  ends_part e r exit read =
-      rw (collected_in_part h out file (base_within file h.base v code e)) (rw (lent_part file h.base) at read)
+  ends_part within part e r o exit same read = rw (collected_in_part h out file within, same) (rw e at read)
 
 -- With base 0 the call ends as before.
 pub ends_whole : (file : List ℕ) (h : BTreeV2Header) (out : List ℕ) (r : Collected) (exit : List ℕ) → h.base ≡ 0

@@ -1,39 +1,28 @@
--- Collecting from a part of a file: nothing to read, the two refusals before the root, and the walk from the root on.
+-- Collecting a header's tree: nothing to read, the refusals before the root, and the walk from the root on.
+use Rattle.std.specs.Prelude.{Result, Ok, Err, ⊤}
 use mathlib.Core.Path.{◌≡◌, refl, sym, ap, ◌∙◌}
-use mathlib.Core.List.{List, ◌++◌}
-use Prim.Native.Nat.{ℕ, ◌+◌, ◌*◌, ◌^◌, ◌≤◌, ◌<◌, zero-le}
-use native.Mathlib.Nat.{zero-mul}
+use mathlib.Core.List.{List, [], ◌∷◌, ◌++◌}
+use Prim.Native.Nat.{ℕ, ◌^◌, ◌<◌}
 use native.Mathlib.Omega.{arith}
-use native.Mathlib.Numerals.{add-one}
-use mathlib.Core.Bool.{Bool, true, false}
-use lib.Dec.{leb}
-use lib.ListN.{length, set, replicate, get_or-append}
-use borrow.Author.Tests.{le-leb}
-use Rattle.numbers.specs.Numbers.{pick}
-use Rattle.numbers.specs.Places.{put}
-use Rattle.numbers.proofs.Lists.{stored_is, put_fits}
+use mathlib.Core.Bool.{true, false}
 use Rattle.numbers.proofs.Numbers.{saturated_small}
-use Rattle.node_info.specs.Capacity.{total_width}
 use Rattle.refusal.specs.declared.Refusal.{Refusal}
-use Rattle.refusal.specs.Answer.{cells, verdict_of}
+use Rattle.refusal.specs.Answer.{cells, refusal_of, verdict_of}
+use Rattle.node_info.specs.declared.Geometry.{Geometry}
+use Rattle.node_info.specs.Table.{tabled}
+use borrow.Author.Tests.{le-leb}
 use Rattle.refusal.proofs.Answers.{refused_is}
-use Rattle.node_info.specs.declared.NodeInfo.{NodeInfo}
-use Rattle.node_info.specs.Table.{info_at, no_info}
-use Rattle.node_info.proofs.Columns.{column_length, total_entry}
 use Rattle.btree_v2_collect.specs.Walk.{Run, fine, stopped, if_passed, no_counts, node_run}
 use Rattle.btree_v2_collect.specs.Collect.{collected, collect_tests, count_cells, run_cells, run_output}
 use Rattle.btree_v2_collect.proofs.Outcomes.{collected_empty, collected_root}
 use Rattle.read_checks.specs.Tests.{no_records, root_test}
 use Rattle.read_checks.proofs.Root.{Rooted, root_passed}
 use Rattle.btree_v2_header.specs.declared.BTreeV2Header.{BTreeV2Header}
-use Rattle.refusal.specs.declared.Verdict.{Verdict}
-use Rattle.refusal.specs.declared.Verdict.TheVariants.{Accepted, Refused}
 use Rattle.btree_v2_collect.specs.declared.Tally.{Tally}
 use Rattle.btree_v2_collect.specs.declared.Collected.{Collected}
-use Rattle.btree_v2_collect.specs.Answers.{Ends}
-use Rattle.btree_v2_collect.specs.Collecting.{counts_of, tally_of, nothing_read, run_of, saturated_run, Readable, RootRead, Walked}
+use Rattle.btree_v2_collect.specs.Answers.{Ends, collected_cells}
+use Rattle.btree_v2_collect.specs.Collecting.{counts_of, nothing_read, run_of, saturated_run, Walked}
 use Rattle.btree_v2_collect.proofs.Holding.{saturated_saturated}
-use Rattle.node_info.specs.declared.Geometry.{Geometry}
 
 -- Held counts or exact ones: the same cells and output.
 cells_saturated : (x : Run) → run_cells (saturated_run x) ≡ run_cells x
@@ -46,95 +35,57 @@ output_saturated (fine c o) = refl
 output_saturated (stopped number values c o) = refl
 
 -- An answer's own cells and output.
-cells_of : (v : Verdict) (t o : List ℕ) → run_cells (run_of v t o) ≡ cells 3 (verdict_of v) ++ count_cells (counts_of t)
+cells_of : (v : Result ⊤ Refusal) (t : Tally) (o : List ℕ) → run_cells (run_of v t o) ≡ cells 3 (verdict_of v) ++ count_cells (counts_of t)
 unfolding run_cells
-cells_of Accepted t o = refl
-cells_of (Refused q) t o = rw (refused_is q).2
+cells_of (Ok _) t o = refl
+cells_of (Err q) t o = rw (refused_is q).2
 
-output_of : (v : Verdict) (t o : List ℕ) → run_output (run_of v t o) ≡ o
-output_of Accepted t o = refl
-output_of (Refused q) t o = rw (refused_is q).2
+output_of : (v : Result ⊤ Refusal) (t : Tally) (o : List ℕ) → run_output (run_of v t o) ≡ o
+output_of (Ok _) t o = refl
+output_of (Err q) t o = rw (refused_is q).2
 
--- Counts that fit words.
-pub record Small (r : Tally) : Type 0 where
-  pub records : r.records < 2 ^ 64
-  pub leaves : r.leaves < 2 ^ 64
-  pub internals : r.internals < 2 ^ 64
-  pub internal_records : r.internal_records < 2 ^ 64
+-- Counts that fit words, as they are told.
+pub count_cells_of : (t : Tally) → t.records < 2 ^ 64 → t.leaves < 2 ^ 64 → t.internals < 2 ^ 64 → t.internal_records < 2 ^ 64
+    → count_cells (counts_of t) ≡ t.records ∷ t.leaves ∷ t.internals ∷ t.internal_records ∷ []
+count_cells_of t records leaves internals internal_records =
+    rw (saturated_small _ records, saturated_small _ leaves, saturated_small _ internals, saturated_small _ internal_records)
 
-walked_ends : (g : Geometry) (x : Run) (v : Verdict) (t o : List ℕ) → Walked g x v t o → (r : Tally) → r ≡ tally_of t → Small r
-    → Ends x (record { verdict = v; tally = r }) o
-walked_ends g x v t o walked r e small =
-    let count = cells_of v t o in
-    let fit : Small (tally_of t) = rw e at small in
-    rw e (
-      sym
-          (sym (cells_saturated x) ∙ ap run_cells (sym walked.ends) ∙ cells_saturated (run_of v t o)
-          ∙ rw (saturated_small _ fit.records, saturated_small _ fit.leaves, saturated_small _ fit.internals, saturated_small _ fit.internal_records) at count),
-      sym (sym (output_saturated x) ∙ ap run_output (sym walked.ends) ∙ output_saturated (run_of v t o) ∙ output_of v t o),
-    )
+walked_ends : (x : Run) (v : Result ⊤ Refusal) (t : Tally) (o : List ℕ) → Walked x v t o → (r : Collected) → collected_cells r ≡ cells 3 (verdict_of v) ++ count_cells (counts_of t)
+    → Ends x r o
+walked_ends x v t o walked r told = (
+  told ∙ sym (sym (cells_saturated x) ∙ ap run_cells (sym walked.ends) ∙ cells_saturated (run_of v t o) ∙ cells_of v t o),
+  sym (sym (output_saturated x) ∙ ap run_output (sym walked.ends) ∙ output_saturated (run_of v t o) ∙ output_of v t o),
+)
 
 -- Nothing is read, and the verdict is all there is to tell.
-pub ends_so : (v : Verdict) (o : List ℕ) (x : Run) → x ≡ if_passed (verdict_of v) no_counts o (fine no_counts o) → (r : Collected) → r ≡ nothing_read v → Ends x r o
+pub ends_so : (v : Result ⊤ Refusal) (o : List ℕ) (x : Run) → x ≡ if_passed (verdict_of v) no_counts o (fine no_counts o) → Ends x (nothing_read v) o
 unfolding run_cells
-ends_so Accepted o x e r is = rw (e, is) (refl, refl)
-ends_so (Refused q) o x e r is = rw (e, is, (refused_is q).2) (refl, refl)
+ends_so (Ok _) o x e = rw e (refl, refl)
+ends_so (Err q) o x e = rw (e, (refused_is q).2) (refl, refl)
 
--- A tree without records, as `empty` says, and one that the tests before the root refuse or pass.
-module _ (file : List ℕ) (h : BTreeV2Header) (o : List ℕ) (empty : Bool) (says : empty ≡ no_records h.total_records h.num_records_in_root) where
-  pub no_records_lem : empty ≡ true → (r : Collected) → r ≡ nothing_read Accepted → Ends (collected file h o) r o
-  no_records_lem e = ends_so Accepted o _ (collected_empty file h o (sym says ∙ e))
+-- A tree without records, one that the tests before the root refuse, and one that they pass.
+module _ (file : List ℕ) (h : BTreeV2Header) (o : List ℕ) where
+  pub ends_empty : no_records h.total_records h.num_records_in_root ≡ true → Ends (collected file h o) (nothing_read (Ok tt)) o
+  ends_empty e = ends_so (Ok tt) o _ (collected_empty file h o e)
 
-  pub root_refused : empty ≡ false → (v : Verdict) → verdict_of v ≡ root_test h.geometry.record_size h.depth → (q : Refusal) → v ≡ Refused q
-      → (r : Collected) → r ≡ nothing_read v → Ends (collected file h o) r o
-  root_refused some v tested q e = ends_so v o _ (collected_root file h o (sym says ∙ some) ∙ rw (← tested, e, (refused_is q).2))
+  module _ (some : no_records h.total_records h.num_records_in_root ≡ false) (v : Result ⊤ Refusal)
+      (tested : verdict_of v ≡ root_test h.geometry.record_size h.depth) where
+    pub ends_refused : (q : Refusal) → v ≡ Err q → Ends (collected file h o) (nothing_read (Err q)) o
+    ends_refused q e = ends_so (Err q) o _ (collected_root file h o some ∙ rw (← tested, e, (refused_is q).2))
 
-pub root_read : (h : BTreeV2Header) (empty : Bool) → empty ≡ no_records h.total_records h.num_records_in_root → empty ≡ false
-    → (v : Verdict) → verdict_of v ≡ root_test h.geometry.record_size h.depth → v ≡ Accepted → RootRead h
-root_read h empty says some v tested e = record { some = sym says ∙ some; passes = sym tested ∙ rw e }
+    pub ends_walked : v ≡ Ok tt → (u : Result ⊤ Refusal) (t : Tally) (o1 : List ℕ)
+        → Walked (node_run file h.geometry (collect_tests file h.geometry) h.depth h.root_node_address h.num_records_in_root no_counts o) u t o1
+        → (r : Collected) → collected_cells r ≡ cells 3 (verdict_of u) ++ count_cells (counts_of t) → Ends (collected file h o) r o1
+    ends_walked e u t o1 walked r told = rw (collected_root file h o some, ← tested, e) (walked_ends _ u t o1 walked r told)
 
--- Before the first record.
-pub none_within : (size room : ℕ) → 0 * size ≤ room
-none_within size room = rw zero-mul zero-le
+-- What passed them has a table, and its records have bytes.
+module _ (g : Geometry) (depth : ℕ) (v : Result ⊤ Refusal) (tested : verdict_of v ≡ root_test g.record_size depth) (passed : v ≡ Ok tt) where
+  pub rooted : Rooted g.record_size depth
+  rooted = root_passed g.record_size depth (sym tested ∙ rw passed)
 
--- The widths that the table gives, and the walk by them from the root on.
-module _ {h : BTreeV2Header} (read : RootRead h) (info : NodeInfo)
-    (table : info ≡ pick (leb h.depth 32) (info_at h.geometry h.depth) no_info) where
-  rooted : Rooted h.geometry.record_size h.depth
-  rooted = root_passed h.geometry.record_size h.depth read.passes
-
-  table_is : info ≡ info_at h.geometry h.depth
-  table_is = rw (le-leb h.depth 32 rooted.deep) at table
-
-  abbrev counts : ℕ
-  counts = info.max_nrec_size
-
-  abbrev totals : List ℕ
-  totals = info.cum_max_nrec_size
-
-  totals_long : length totals ≡ 33
-  unfolding info_at
-  totals_long = rw (table_is, column_length (total_width h.geometry) h.depth)
-
-  pub root_readable : (l : List ℕ) → l ≡ put (set (replicate 34 0) 0 counts) 1 totals → Readable h.geometry l h.depth
-  unfolding info_at
-  root_readable l e =
-      let fits : 1 + length totals ≤ length (set (replicate 34 0) 0 counts) = omega (arith, totals_long) in
-      let whole = e ∙ put_fits (set (replicate 34 0) 0 counts) 1 totals fits ∙ stored_is _ _ _ in
-      record {
-        some = omega (arith, rooted.sized);
-        deep = rooted.deep;
-        counts = rw (whole, table_is);
-        totals = λ u k.
-            rw (whole, add-one u, get_or-append totals _ 0 u (omega (arith, totals_long, rooted.deep)))
-            (total_entry h.geometry h.depth info table_is u k rooted.deep);
-      }
-
-  -- A node at address a with n records is the root.
-  pub root_walked : (file o : List ℕ) (a n : ℕ) (v : Verdict) (t o1 : List ℕ)
-      → Walked h.geometry (node_run file h.geometry (collect_tests file h.geometry) h.depth a n no_counts o) v t o1
-      → a ≡ h.root_node_address → n ≡ h.num_records_in_root → (r : Tally) → r ≡ tally_of t → Small r
-      → Ends (collected file h o) (record { verdict = v; tally = r }) o1
-  root_walked file o a n v t o1 walked address records r e small =
-      rw (collected_root file h o read.some, read.passes)
-      (walked_ends h.geometry _ v t o1 (rw (address, records) at walked) r e small)
+  pub table_there : (q : Refusal) → refusal_of q ≡ tabled g depth → ⊥
+  unfolding tabled
+  table_there q e =
+      let is = (refused_is q).2 in
+      let given = rw (le-leb depth 32 rooted.deep, is) at e in
+      let z : ◌≡◌ {A = ℕ} 0 1 = cc in absurd (omega arith)

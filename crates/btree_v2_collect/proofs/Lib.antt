@@ -1,8 +1,8 @@
 -- The laws that the crate's proofs cite.
-mod Calls
-pub mod Bases
 pub mod Reached
 pub mod Changed
+mod Calls
+pub mod Bases
 mod Holding
 mod Putting
 mod Steps
@@ -16,3 +16,4 @@ pub mod Balance
 pub mod InFile
 pub mod Tested
 pub mod Places
+mod Moves

@@ -4,3 +4,4 @@ pub mod Collecting
 pub mod Walk
 pub mod InFile
 pub mod Collect
+pub mod State

@@ -2,12 +2,12 @@
 
 #![tactic(auto)]
 
-use refusal::Verdict;
+use refusal::Refusal;
 
 pub mod collect;
 
 // Records put out, leaves read, internal nodes read, and records from internal nodes, each saturated at 2^64 - 1.
-#[derive(Clone, Copy)]
+#[derive(Clone, Copy, Default)]
 pub struct Tally {
     pub records: u64,
     pub leaves: u64,
@@ -17,6 +17,6 @@ pub struct Tally {
 
 #[derive(Clone, Copy)]
 pub struct Collected {
-    pub verdict: Verdict,
+    pub verdict: Result<(), Refusal>,
     pub tally: Tally,
 }

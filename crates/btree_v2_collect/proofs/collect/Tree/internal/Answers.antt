@@ -1,0 +1,12 @@
+-- `internal` takes the bytes of a pointer's fields from the table.
+use mathlib.Core.Path.{ap, ◌∙◌}
+use Rattle.node_info.specs.declared.ChildPointer.{ChildPointer}
+use Rattle.node_info.proofs.Columns.{pointer_entry}
+use Rattle.btree_v2_internal.specs.declared.Internal.{Internal}
+use Rattle.btree_v2_collect.proofs.collect.Tree.internal.Goals as goal
+
+pub returns : goal.returns
+returns c =
+    let tree = c.args.self.now in
+    let internal : ChildPointer → Internal = λ p. record { node = c.args.node; record_size = tree.geometry.record_size; pointer = p } in
+    ap internal (c.pointer_to.ensures ∙ pointer_entry tree.geometry tree.depth tree.info.now tree.table c.args.under c.requires tree.deep tree.geometry.offset_size)
