@@ -3,18 +3,18 @@
 use mathlib.Core.Path.{◌≡◌, refl, sym, ap, ◌∙◌}
 use mathlib.Core.Bool.{and-false}
 use mathlib.Core.Logic.{⊎_elim}
-use mathlib.Core.List.{List, [], ◌∷◌, ◌++◌, append-nil}
+use mathlib.Core.List.{List, [], ◌∷◌, ◌++◌, append_assoc, append-nil}
 use Prim.Native.Nat.{ℕ, ◌+◌, ◌-◌, ◌≤◌, ◌<◌}
 use native.Mathlib.Nat.{zero-add}
 use native.Mathlib.Omega.{arith}
 use borrow.Rule.Slice.PartMut.{put_mid}
 use Rattle.std.proofs.Common.{zero-le}
 use borrow.Author.Tests.{le-leb, lt-leb}
-use lib.ListN.{length, set, take, replicate, length-replicate}
+use lib.ListN.{length, set, take, drop, replicate, length-append, length-replicate}
 use lib.Seq.{drop-drop, sets-eq, take_all, length-take-le}
 use Rattle.numbers.specs.Numbers.{le, part}
 use Rattle.numbers.specs.Places.{stored, put, joined}
-use Rattle.numbers.proofs.Lists.{stored_is, stored_nil, stored_append, take_stored_end, length_stored, length_part, put_fits}
+use Rattle.numbers.proofs.Lists.{stored_is, stored_nil, stored_snoc, stored_append, take_stored_end, length_stored, length_part, put_fits}
 use Rattle.numbers.proofs.Filling.{joined_one, filled_turn, length_filled, filled_stored, filled_none}
 use Rattle.numbers.proofs.Numbers.{le_length, lt_or_le}
 use Rattle.checksum.specs.Lookup3.{lookup3}
@@ -24,35 +24,43 @@ use Rattle.format.proofs.Fields.{end_joined}
 use Rattle.btree_v2_stamp.specs.Stamped.{fronted, stamped}
 
 -- `put_front`: no six bytes; or as many fields as the budget says, at the front.
-module _ (o : List ℕ) (c d type k : ℕ) where
-  abbrev signature : List ℕ
-  signature = 66 ∷ 84 ∷ c ∷ d ∷ []
-
-  pub front_short : length o < 6 → o ≡ fronted o signature type k
+module _ (o s : List ℕ) (type k : ℕ) where
+  pub front_short : length o < 6 → o ≡ fronted o s type k
   unfolding fronted
   front_short h = rw (lt-leb 6 (length o) h)
 
   module _ (h : 6 ≤ length o) where
-    pub fronted_is : fronted o signature type k ≡ stored o 0 (joined (take k (front_fields signature type)))
+    pub fronted_is : fronted o s type k ≡ stored o 0 (joined (take k (front_fields s type)))
     unfolding fronted
-    fronted_is = rw (le-leb 6 (length o) h) (filled_stored k (front_fields signature type) o)
+    fronted_is = rw (le-leb 6 (length o) h) (filled_stored k (front_fields s type) o)
 
-    pub front_none : k < 1 → o ≡ fronted o signature type k
+    pub front_none : k < 1 → o ≡ fronted o s type k
     front_none l =
-        let e : k ≡ 0 = omega arith in rw (fronted_is, e) (sym (filled_none (front_fields signature type) o) ∙ filled_stored 0 _ o)
+        let e : k ≡ 0 = omega arith in rw (fronted_is, e) (sym (filled_none (front_fields s type) o) ∙ filled_stored 0 _ o)
 
-    pub front_signed : k < 2 → 1 ≤ k → set (set (set (set o 0 66) 1 84) 2 c) 3 d ≡ fronted o signature type k
-    unfolding front_fields joined
-    front_signed l m = let e : k ≡ 1 = omega arith in rw (fronted_is, e, stored_is) (sets-eq signature o 0 (omega arith))
+    -- The signature c is copied, and one byte is put after another.
+    module _ (c : List ℕ) (is : c ≡ s) (four : length s ≡ 4) where
+      signed : c ++ drop 4 o ≡ stored o 0 s
+      signed = rw (stored_is, is, zero-add, four)
 
-    pub front_versioned : k < 3 → 2 ≤ k → set (set (set (set (set o 0 66) 1 84) 2 c) 3 d) 4 0 ≡ fronted o signature type k
-    unfolding front_fields joined
-    front_versioned l m = let e : k ≡ 2 = omega arith in rw (fronted_is, e, stored_is) (sets-eq (66 ∷ 84 ∷ c ∷ d ∷ 0 ∷ []) o 0 (omega arith))
+      next_byte : (b : List ℕ) (m x : ℕ) → m ≡ length b → m < length o → set (stored o 0 b) m x ≡ stored o 0 (b ++ (x ∷ []))
+      next_byte b m x e l = rw (zero-add, ← e) at (stored_snoc o 0 b x (omega arith))
 
-    pub front_whole : 3 ≤ k → set (set (set (set (set (set o 0 66) 1 84) 2 c) 3 d) 4 0) 5 type ≡ fronted o signature type k
-    unfolding front_fields joined
-    front_whole m =
-        rw (fronted_is, take_all k (front_fields signature type) m, stored_is) (sets-eq (66 ∷ 84 ∷ c ∷ d ∷ 0 ∷ type ∷ []) o 0 h)
+      versioned : set (c ++ drop 4 o) 4 0 ≡ stored o 0 (s ++ (0 ∷ []))
+      versioned = rw signed (next_byte s 4 0 (sym four) (omega arith))
+
+      pub front_signed : k < 2 → 1 ≤ k → c ++ drop 4 o ≡ fronted o s type k
+      unfolding front_fields joined
+      front_signed l m = let e : k ≡ 1 = omega arith in rw (fronted_is, e, append-nil) signed
+
+      pub front_versioned : k < 3 → 2 ≤ k → set (c ++ drop 4 o) 4 0 ≡ fronted o s type k
+      unfolding front_fields joined
+      front_versioned l m = let e : k ≡ 2 = omega arith in rw (fronted_is, e) versioned
+
+      pub front_whole : 3 ≤ k → set (set (c ++ drop 4 o) 4 0) 5 type ≡ fronted o s type k
+      unfolding front_fields joined
+      front_whole m =
+          rw (fronted_is, take_all k (front_fields s type) m, versioned, next_byte (s ++ (0 ∷ [])) 5 type (rw (length-append, four)) h, append_assoc)
 
 -- A part that was lent, back at its place.
 mid_stored : (o : List ℕ) (a k : ℕ) (b : List ℕ) → k ≡ length b → put_mid a k o b ≡ stored o a b

@@ -36,7 +36,7 @@ pub fixed_put : (q : Request) (depth : ℕ) (o a b c d e f : List ℕ) → 16 �
 unfolding fixed_bytes le front_fields joined
 fixed_put q depth o a b c d e f h ha hb hc hd he hf =
     let front : List ℕ = 66 ∷ 84 ∷ 72 ∷ 68 ∷ 0 ∷ q.tree_type ∷ [] in
-    let s = fronted_is o 72 68 q.tree_type 3 (omega arith) in
+    let s = fronted_is o (66 ∷ 84 ∷ 72 ∷ 68 ∷ []) q.tree_type 3 (omega arith) in
     let sized = front ++ le 4 q.geometry.node_size in
     let recorded = sized ++ le 2 q.geometry.record_size in
     let deep = recorded ++ le 2 depth in

@@ -3,7 +3,7 @@
 
 #![tactic(auto)]
 
-ghost use Rattle.std.specs.Prelude.{◌≡◌, [], ◌∷◌, ◌≤◌, length, replicate};
+ghost use Rattle.std.specs.Prelude.{◌≡◌, ◌≤◌, length};
 ghost use Rattle.numbers.specs.Places.{stored, put};
 ghost use Rattle.format.specs.Bytes.{header_bytes};
 ghost use Rattle.btree_v2_stamp.specs.Header.{fixed_bytes};
@@ -16,22 +16,18 @@ const SPLIT_PERCENT: u64 = 100;
 
 const MERGE_PERCENT: u64 = 40;
 
-// Zeros over a whole slice.
-fn clear(to: &mut [u8])
-    ensures { to.new ≡ replicate (length to.old) 0 }
-{
-    let n = to.len();
-    let mut i = 0;
-    while i < n {
-        to[i] = 0;
-        i += 1;
-    }
+// What a header says of a tree: its depth, the address and the records of its root, and the records in all.
+#[derive(Clone, Copy)]
+pub struct Root {
+    pub depth: u64,
+    pub address: u64,
+    pub records: u64,
+    pub total: u64,
 }
 
-// Puts the signature, whose last two letters are given, the version and the tree type, the first `budget` of them, where six bytes are there;
-// else changes nothing.
-pub fn put_front(node: &mut [u8], third: u8, fourth: u8, tree_type: u8, budget: usize)
-    ensures { node.new ≡ fronted node.old (66 ∷ 84 ∷ third ∷ fourth ∷ []) tree_type budget }
+// Puts the signature, the version and the tree type, the first `budget` of them, where six bytes are there; else changes nothing.
+pub fn put_front(node: &mut [u8], signature: &[u8; 4], tree_type: u8, budget: usize)
+    ensures { node.new ≡ fronted node.old signature.now tree_type budget }
 {
     if node.len() < 6 {
         return;
@@ -39,10 +35,7 @@ pub fn put_front(node: &mut [u8], third: u8, fourth: u8, tree_type: u8, budget: 
     if budget < 1 {
         return;
     }
-    node[0] = b'B';
-    node[1] = b'T';
-    node[2] = third;
-    node[3] = fourth;
+    node[..4].copy_from_slice(signature);
     if budget < 2 {
         return;
     }
@@ -75,16 +68,16 @@ pub fn stamp(node: &mut [u8], used: usize, node_size: usize, budget: usize)
     if budget <= 1 {
         return;
     }
-    clear(&mut node[used + 4..node_size]);
+    node[used + 4..node_size].fill(0);
 }
 
 // Puts the header's first sixteen bytes, to the merge percent.
-fn put_fixed(header: &mut [u8], request: Request, depth: u64)
+fn put_fixed(header: &mut [u8], request: &Request, depth: u64)
     requires { 16 ≤ length header.old }
-    ensures { header.new ≡ stored header.old 0 (fixed_bytes request depth) }
+    ensures { header.new ≡ stored header.old 0 (fixed_bytes request.now depth) }
 {
     let geometry = request.geometry;
-    put_front(header, b'H', b'D', request.tree_type, 3);
+    put_front(header, b"BTHD", request.tree_type, 3);
     numbers::write_le(header, 6, geometry.node_size as u64, 4);
     numbers::write_le(header, 10, geometry.record_size as u64, 2);
     numbers::write_le(header, 12, depth, 2);
@@ -93,26 +86,18 @@ fn put_fixed(header: &mut [u8], request: Request, depth: u64)
 }
 
 // Puts the bytes of a request's header where they fit; else changes nothing.
-pub fn write_header(
-    header: &mut [u8],
-    request: Request,
-    depth: u64,
-    address: u64,
-    records: u64,
-    total: u64,
-)
-    ensures { header.new ≡ put header.old 0 (header_bytes request depth address records total) }
+pub fn write_header(header: &mut [u8], request: &Request, root: &Root)
+    ensures { header.new ≡ put header.old 0 (header_bytes request.now root.now.depth root.now.address root.now.records root.now.total) }
 {
-    let geometry = request.geometry;
-    let offset_size = geometry.offset_size as usize;
+    let offset_size = request.geometry.offset_size as usize;
     let length_size = request.length_size as usize;
     let size = format::HEADER_OVERHEAD as usize + offset_size + length_size;
     if header.len() < size {
         return;
     }
-    put_fixed(header, request, depth);
-    numbers::write_le(header, 16, address, offset_size);
-    numbers::write_le(header, 16 + offset_size, records, 2);
-    numbers::write_le(header, 18 + offset_size, total, length_size);
+    put_fixed(header, request, root.depth);
+    numbers::write_le(header, 16, root.address, offset_size);
+    numbers::write_le(header, 16 + offset_size, root.records, 2);
+    numbers::write_le(header, 18 + offset_size, root.total, length_size);
     stamp(header, size - 4, size, 2);
 }

@@ -1,5 +1,6 @@
 -- No room for the node or for the checksum, or as many fields as the budget says, after what is there.
 use Rattle.btree_v2_stamp.proofs.Frames.{stamp_long, stamp_small, stamp_full, stamp_none, stamp_sum, stamp_put}
+use borrow.Author.Rules.{rules}
 use lib.ListN.{length-take}
 use native.Mathlib.Omega.{arith}
 use Rattle.btree_v2_stamp.proofs.stamp.Goals as goal
@@ -23,4 +24,4 @@ pub returns-then-budget-le1 : goal.returns-then-budget-le1
 returns-then-budget-le1 c = search stamp_sum
 
 pub returns : goal.returns
-returns c = search stamp_put
+returns c = search (stamp_put, rules)
