@@ -11,7 +11,7 @@ use borrow.Rule.Slice.PartMut.{put_mid}
 use Rattle.std.proofs.Common.{zero-le}
 use borrow.Author.Tests.{le-leb, lt-leb}
 use lib.ListN.{length, set, take, drop, replicate, length-append, length-replicate}
-use lib.Seq.{drop-drop, sets-eq, take_all, length-take-le}
+use lib.Seq.{drop-drop, take_all, length-take-le}
 use Rattle.numbers.specs.Numbers.{le, part}
 use Rattle.numbers.specs.Places.{stored, put, joined}
 use Rattle.numbers.proofs.Lists.{stored_is, stored_nil, stored_snoc, stored_append, take_stored_end, length_stored, length_part, put_fits}
@@ -61,6 +61,8 @@ module _ (o s : List ℕ) (type k : ℕ) where
       unfolding front_fields joined
       front_whole m =
           rw (fronted_is, take_all k (front_fields s type) m, versioned, next_byte (s ++ (0 ∷ [])) 5 type (rw (length-append, four)) h, append_assoc)
+
+pub ruleset fronts = (front_short, front_none, front_signed, front_versioned, front_whole)
 
 -- A part that was lent, back at its place.
 mid_stored : (o : List ℕ) (a k : ℕ) (b : List ℕ) → k ≡ length b → put_mid a k o b ≡ stored o a b
@@ -116,6 +118,8 @@ module _ (o : List ℕ) (used ns k : ℕ) where
           let full = take_all k (end_fields ns (take used o)) m in
           rw (stamped_is, full, ← hs, append-nil, length-take-le used o (omega (arith, h)), mid_stored d (used + 4) zeros z (rw (is, length-replicate)), is, sum_put)
           (rw le_length at (stored_append o used (le 4 sum) (omega (arith, h)) (replicate zeros 0)))
+
+pub ruleset stamps = (stamp_long, stamp_small, stamp_full, stamp_none, stamp_sum, stamp_put)
 
 -- Fields at the front of a node, within a budget, and the node's end within what is left of it.
 pub node_stamped : (o d z : List ℕ) (fields : List (List ℕ)) (k used ns left : ℕ) → d ≡ stored o 0 (joined (take k fields))

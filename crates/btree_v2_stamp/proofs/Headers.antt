@@ -71,10 +71,10 @@ module _ (q : Request) (depth root n total : ℕ) (o : List ℕ) where
   pub header_short : length o < header_size ow lw → o ≡ put o 0 bytes
   header_short h = sym (put_not o 0 bytes (rw length_header (omega arith)))
 
-  pub header-put : (a b c d z : List ℕ) → header_size ow lw ≤ length o → a ≡ stored o 0 (fixed_bytes q depth) → b ≡ put a 16 (le ow root)
+  pub header_put : (a b c d z : List ℕ) → header_size ow lw ≤ length o → a ≡ stored o 0 (fixed_bytes q depth) → b ≡ put a 16 (le ow root)
       → c ≡ put b (16 + ow) (le 2 n) → d ≡ put c (18 + ow) (le lw total)
       → z ≡ stamped d (header_size ow lw - 4) (header_size ow lw) 2 → z ≡ put o 0 bytes
-  header-put a b c d z h ha hb hc hd hz =
+  header_put a b c d z h ha hb hc hd hz =
       let f = fixed_bytes q depth ++ le ow root in
       let lf : length f ≡ 16 + ow = rw (length-append, length_fixed, le_length) in
       let lg : length (f ++ le 2 n) ≡ 18 + ow = rw (length-append, lf, le_length) (omega arith) in

@@ -26,6 +26,7 @@ pub struct Root {
 }
 
 // Puts the signature, the version and the tree type, the first `budget` of them, where six bytes are there; else changes nothing.
+#[tactic(auto, using(crate::proofs::Frames::fronts))]
 pub fn put_front(node: &mut [u8], signature: &[u8; 4], tree_type: u8, budget: usize)
     ensures { node.new ≡ fronted node.old signature.now tree_type budget }
 {
@@ -48,6 +49,7 @@ pub fn put_front(node: &mut [u8], signature: &[u8; 4], tree_type: u8, budget: us
 
 // Puts the checksum of the first `used` bytes after them, and then zeros to the node size, the first `budget` of the two, where that much is
 // there; else changes nothing.
+#[tactic(auto, using(crate::proofs::Frames::stamps))]
 pub fn stamp(node: &mut [u8], used: usize, node_size: usize, budget: usize)
     ensures { node.new ≡ stamped node.old used node_size budget }
 {
@@ -72,6 +74,7 @@ pub fn stamp(node: &mut [u8], used: usize, node_size: usize, budget: usize)
 }
 
 // Puts the header's first sixteen bytes, to the merge percent.
+#[tactic(auto, using(crate::proofs::Headers::fixed_put))]
 fn put_fixed(header: &mut [u8], request: &Request, depth: u64)
     requires { 16 ≤ length header.old }
     ensures { header.new ≡ stored header.old 0 (fixed_bytes request.now depth) }
@@ -86,6 +89,7 @@ fn put_fixed(header: &mut [u8], request: &Request, depth: u64)
 }
 
 // Puts the bytes of a request's header where they fit; else changes nothing.
+#[tactic(auto, using(crate::proofs::Headers::header_short, crate::proofs::Headers::header_put))]
 pub fn write_header(header: &mut [u8], request: &Request, root: &Root)
     ensures { header.new ≡ put header.old 0 (header_bytes request.now root.now.depth root.now.address root.now.records root.now.total) }
 {
