@@ -1,2 +1,2 @@
--- What stands in the caller's array.
-mod Table
+-- The laws of the table's answer.
+pub mod Table

@@ -1,96 +1,67 @@
--- The capacity table in the caller's array, in the forms in which the functions' proofs have it; and a column of numbers.
-use mathlib.Core.Path.{◌≡◌, refl, sym, ◌∙◌}
-use mathlib.Core.List.{List, [], ◌∷◌, ◌++◌, append_assoc, append-nil}
-use Prim.Native.Nat.{ℕ, suc, ◌+◌, ◌-◌, ◌≤◌, ◌<◌}
+-- A refusal and the capacity table in the caller's array.
+use Rattle.std.proofs.lemmas.List.{ext_get_or, length-map, get_or-map}
+use Rattle.std.proofs.Common.{◌≡◌, ℕ, zero, suc, ◌+◌, ◌≤◌, ◌<◌, List, [], ◌∷◌, ◌++◌, length, get_or, set, take, drop, map, replicate, min, sym, ◌∙◌, arith}
+use mathlib.Core.List.{append-nil}
 use native.Mathlib.Nat.{zero-add}
-use native.Mathlib.Numerals.{add-one}
-use native.Mathlib.Omega.{arith}
-use lib.ListN.{length, get_or, take, drop, set, replicate, length-append, length-set}
-use lib.Seq.{length-take-le, take_all, take-suc, take-length, drop-length}
-use Rattle.std.proofs.Common.{zero-le}
-use Rattle.numbers.specs.Places.{stored, put}
-use Rattle.numbers.proofs.Lists.{stored_nil, stored_snoc, stored_append, stored_whole, put_fits, put_not}
-use Rattle.refusal.specs.declared.Refusal.{Refusal}
-use Rattle.refusal.specs.declared.Verdict.{Verdict}
-use Rattle.refusal.specs.declared.Verdict.TheVariants.{Accepted}
-use Rattle.refusal.specs.Answer.{accepted, refusal_of, cells}
-use Rattle.refusal.proofs.Answers.{cells_accepted, cells_more}
+use borrow.Rule.Slice.PartMut.{put_mid}
+use lib.ListN.{length-take, length-drop, take-append-drop, drop_of_length-le}
+use lib.Seq.{get_or-take, get_or-drop, drop-drop, take-take, take_all}
 use Rattle.node_info.specs.declared.NodeInfo.{NodeInfo}
-use Rattle.node_info.specs.Table.{table_answer}
+use Rattle.node_info.specs.declared.Level.{Level}
+use Rattle.node_info.specs.Table.{no_level, table_figures}
+use Rattle.answer_columns.specs.Columns.{columns_of}
+use Rattle.refusal.specs.declared.Refusal.{Refusal}
+use Rattle.refusal.specs.Answer.{accepted, refusal_of, cells}
+use Rattle.refusal.proofs.Answers.{cells_accepted, cells_front, cells_more, length_cells}
 
--- The first i numbers of a column are at their place.
-abbrev pub Copied : List ℕ → ℕ → List ℕ → List ℕ → ℕ → Type 0
-Copied o at column d i = (i ≤ length column) × (length d ≡ length o) × (d ≡ stored o at (take i column))
+-- The first k of a refusal's three numbers t, and zeros.
+pub refusal_put : (cause : Refusal) (k : ℕ) {t : List ℕ} → t ≡ cells 3 (refusal_of cause) → take (min k 3) t ++ drop (min k 3) (replicate k 0) ≡ cells k (refusal_of cause)
+refusal_put cause zero e = cells_front 0 (refusal_of cause)
+refusal_put cause (suc zero) e =
+    let two = cells_front 2 (refusal_of cause) in
+    rw (append-nil, e, ← cells_front 1 (refusal_of cause), ← two, take-take 1 2 _ (omega arith))
+refusal_put cause (suc (suc zero)) e = rw (append-nil, e) (cells_front 2 (refusal_of cause))
+refusal_put cause (suc (suc (suc m))) e =
+    let three : min (suc (suc (suc m))) 3 ≡ 3 = omega arith in
+    let all : suc (suc (suc m)) ≡ m + 3 = omega arith in
+    rw (three, e, take_all 3 (cells 3 (refusal_of cause)) (omega (arith, length_cells 3 (refusal_of cause))), all) (sym (cells_more cause m))
 
-module _ (o : List ℕ) (at : ℕ) (column : List ℕ) where
-  pub copied-start : Copied o at column o 0
-  copied-start = (zero-le, refl, rw stored_nil)
+-- What stands from a place on: a piece, and what stands behind it.
+piece : (a x y : List ℕ) (p n : ℕ) → length x ≡ n → p + n ≤ length a → ((k : ℕ) → k < n → get_or a (p + k) 0 ≡ get_or x k 0) → drop (p + n) a ≡ y → drop p a ≡ x ++ y
+piece a x y p n long room same behind =
+    let size : length (take n (drop p a)) ≡ n = simp (length-take, length-drop) (omega arith) in
+    let front : take n (drop p a) ≡ x =
+    ext_get_or 0 _ x (size ∙ sym long) (λ k h. let few : k < n = rw size at h in rw (get_or-take n (drop p a) k 0 few, get_or-drop) (same k few)) in
+    rw (← take-append-drop n (drop p a), front, drop-drop, behind)
 
-  module _ (d : List ℕ) (i : ℕ) (inv : Copied o at column d i) where
-    pub copied-turn : at + length column ≤ length o → i < length column
-        → Copied o at column (set d (at + i) (get_or column i 0)) (i + 1)
-    copied-turn fits h =
-        let n : length (take i column) ≡ i = length-take-le i column inv.0 in
-        let s = stored_snoc o at (take i column) (get_or column i 0) (omega arith) in
-        (omega arith, rw length-set inv.1, rw (inv.2, add-one, take-suc column i 0 h) (rw n at s))
+-- The entries of the first i levels stand in the columns c.
+pub record InColumns (levels : List Level) (i : ℕ) (c : List ℕ) : Type 0 where
+  pub long : length c ≡ 99
+  pub nodes : (k : ℕ) → k < i → get_or c k 0 ≡ (get_or levels k no_level).max_nrec
+  pub subtrees : (k : ℕ) → k < i → get_or c (33 + k) 0 ≡ (get_or levels k no_level).cum_max_nrec
+  pub totals : (k : ℕ) → k < i → get_or c (66 + k) 0 ≡ (get_or levels k no_level).cum_max_nrec_size
 
-    pub copied-end : length column ≤ i → d ≡ stored o at column
-    copied-end h = rw (inv.2, take_all i column h)
+module _ (levels : List Level) (i : ℕ) (c : List ℕ) (inv : InColumns levels i c) (all : length levels ≡ 33) (to_the_last : length levels ≤ i) where
+  column_at : (f : Level → ℕ) (p : ℕ) → ((k : ℕ) → k < i → get_or c (p + k) 0 ≡ f (get_or levels k no_level)) → (k : ℕ) → k < 33
+      → get_or c (p + k) 0 ≡ get_or (map f levels) k 0
+  column_at f p entries k few = rw (get_or-map f levels k no_level 0 (omega arith)) (entries k (omega arith))
 
--- `put_column`: no place, no room, or the numbers.
-module _ (o : List ℕ) (at : ℕ) (column : List ℕ) where
-  pub column-no-place : length o < at → o ≡ put o at column
-  column-no-place h = sym (put_not o at column (omega arith))
+  pub columns_whole : c ≡ columns_of levels
+  columns_whole =
+      let short : length c ≤ 99 = omega (arith, inv.long) in
+      let none_left : drop 99 c ≡ [] = drop_of_length-le c short in
+      piece c _ _ 0 33 (length-map _ _ ∙ all) (omega (arith, inv.long)) (column_at (λ (l : Level). l.max_nrec) 0 (λ k few. rw zero-add (inv.nodes k few)))
+      (piece c _ _ 33 33 (length-map _ _ ∙ all) (omega (arith, inv.long)) (column_at (λ (l : Level). l.cum_max_nrec) 33 inv.subtrees)
+      (piece c _ [] 66 33 (length-map _ _ ∙ all) (omega (arith, inv.long)) (column_at (λ (l : Level). l.cum_max_nrec_size) 66 inv.totals) none_left))
+      ∙ simp append-nil
 
-  pub column-no-room : at ≤ length o → length o - at < length column → o ≡ put o at column
-  column-no-room l h = sym (put_not o at column (omega arith))
-
-  pub column-put : {d : List ℕ} → at ≤ length o → length column ≤ length o - at → d ≡ stored o at column → d ≡ put o at column
-  column-put l h e = e ∙ sym (put_fits o at column (omega arith))
-
--- A refusal's number n and its values x and y in the first places of a; then zeros z in the others.
-abbrev Code : List ℕ → ℕ → ℕ → ℕ → List ℕ
-Code a n x y = set (set (set a 0 n) 1 x) 2 y
-
-pub refusal-put : (cause : Refusal) (a : List ℕ) {n x y : ℕ} {z : List ℕ} → 3 ≤ length a
-    → n ∷ x ∷ y ∷ [] ≡ cells 3 (refusal_of cause)
-    → z ≡ replicate (length (take (length (Code a n x y) - 3) (drop 3 (Code a n x y)))) 0
-    → take 3 (Code a n x y) ++ (z ++ drop (length (Code a n x y) - 3) (drop 3 (Code a n x y)))
-    ≡ cells (length a) (refusal_of cause)
-refusal-put cause [] h code e = absurd (omega arith)
-refusal-put cause (_ ∷ []) h code e = absurd (omega arith)
-refusal-put cause (_ ∷ _ ∷ []) h code e = absurd (omega arith)
-refusal-put cause (_ ∷ _ ∷ _ ∷ r) h code e =
-    let k : suc (suc (suc (length r))) - 3 ≡ length r = omega arith in
-    let m : suc (suc (suc (length r))) ≡ length r + 3 = omega arith in
-    rw (e, k, take-length, drop-length, append-nil, m, cells_more, ← code)
-
--- The table's columns, each right after the one before.
-two : (a : List ℕ) (x y : ℕ) → 2 ≤ length a → set (set a 0 x) 1 y ≡ stored a 0 (x ∷ y ∷ [])
-unfolding stored
-two [] x y h = absurd (omega arith)
-two (_ ∷ []) x y h = absurd (omega arith)
-two (_ ∷ _ ∷ r) x y h = refl
-
-next : (o b c : List ℕ) (p : ℕ) → length b ≡ p → stored (stored o 0 b) p c ≡ stored o 0 (b ++ c)
-next o b c p e = rw (← e, ← zero-add (length b)) (stored_append o 0 b zero-le c)
-
-columns : (w : ℕ) (m s t a : List ℕ) → length m ≡ 33 → length s ≡ 33 → length t ≡ 33 → length a ≡ 101
-    → stored (stored (stored (set (set a 0 0) 1 w) 2 m) 35 s) 68 t ≡ cells 101 (accepted (w ∷ (m ++ (s ++ t))))
-columns w m s t a hm hs ht ha =
-    let lm : length (0 ∷ w ∷ m) ≡ 35 = rw hm in
-    let ls : length (0 ∷ w ∷ (m ++ s)) ≡ 68 = simp (length-append, hm, hs) in
-    let lt : length (w ∷ (m ++ (s ++ t))) ≡ 100 = simp (length-append, hm, hs, ht) in
-    let whole = stored_whole a (0 ∷ w ∷ (m ++ (s ++ t))) (omega arith) in
-    let cells_are = cells_accepted 101 (w ∷ (m ++ (s ++ t))) 0 (omega arith) in
-    rw (two a 0 w (omega arith), next a (0 ∷ w ∷ []) m 2 refl, next a (0 ∷ w ∷ m) s 35 lm, next a (0 ∷ w ∷ (m ++ s)) t 68 ls)
-    (rw (append_assoc, whole, cells_are, append-nil))
-
-pub table-put : (i : NodeInfo) (a : List ℕ) {v : Verdict} {b c d : List ℕ} → v ≡ Accepted
-    → length i.max_nrec ≡ 33 → length i.cum_max_nrec ≡ 33 → length i.cum_max_nrec_size ≡ 33
-    → length (set (set a 0 0) 1 i.max_nrec_size) ≡ 101
-    → b ≡ stored (set (set a 0 0) 1 i.max_nrec_size) 2 i.max_nrec
-    → c ≡ stored b 35 i.cum_max_nrec
-    → d ≡ stored c 68 i.cum_max_nrec_size
-    → d ≡ cells 101 (table_answer v i)
-table-put i a e hm hs ht ha eb ec ed = rw (ed, ec, eb, e) (columns _ _ _ _ a hm hs ht (simp length-set at ha))
+-- The answer of the table: 0, the width of a record count, and the columns c.
+pub table_told : (a c : List ℕ) (info : NodeInfo) → length a ≡ 101 → length c ≡ 99 → c ≡ columns_of info.levels
+    → put_mid 2 99 (set (set a 0 0) 1 info.max_nrec_size) c ≡ cells 101 (accepted (table_figures info))
+table_told [] c info long columns e = absurd (omega arith)
+table_told (_ ∷ []) c info long columns e = absurd (omega arith)
+table_told (_ ∷ _ ∷ rest) c info long columns e =
+    let short : length rest ≤ 99 = omega arith in
+    let none_left : drop 99 rest ≡ [] = drop_of_length-le rest short in
+    let figures : 101 ≡ suc (length (info.max_nrec_size ∷ c)) + 0 = omega arith in
+    rw (none_left, ← e, cells_accepted 101 (info.max_nrec_size ∷ c) 0 figures)

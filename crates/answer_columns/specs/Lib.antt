@@ -1,0 +1,2 @@
+-- The definition that the contracts of the crate cite.
+pub mod Columns
