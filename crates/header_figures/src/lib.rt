@@ -12,10 +12,7 @@ use node_info::Geometry;
 fn figure(figures: &[u64], i: usize) -> u64
     ensures { result ≡ get_or figures.now i 0 }
 {
-    if figures.len() <= i {
-        return 0;
-    }
-    figures[i]
+    figures.get(i).copied().unwrap_or(0)
 }
 
 // The header that its figures tell, as btree_v2_parse or btree_v2_parse_at gives them, without a base or with one; a number above its field's

@@ -1,2 +1,0 @@
--- The laws of a header's figures.
-mod Telling
