@@ -51,7 +51,8 @@ impl BTreeV2Header {
     }
 }
 
-// The header at `offset` of the part of a file from `base` on. The base is only carried into the header.
+// Where a header is: at `offset` of the part of a file from `base` on, for offsets and lengths of these sizes. The base is only carried into
+// the header.
 #[derive(Clone, Copy)]
 struct HeaderAt<'a> {
     part: &'a [u8],
@@ -62,8 +63,9 @@ struct HeaderAt<'a> {
 }
 
 impl<'a> HeaderAt<'a> {
+    // Its tests, then its fields.
     fn read(&self) -> Result<BTreeV2Header, Refusal>
-        ensures { ParsesPart self.now.part.now self.now.base self.now.offset self.now.offset_size self.now.length_size result }
+        ensures { let h = self.now in ParsesPart h.part.now h.base h.offset h.offset_size h.length_size result }
     {
         self.check_start()?;
         self.check_rest()?;
@@ -73,8 +75,8 @@ impl<'a> HeaderAt<'a> {
     // The tests up to that of the offset size.
     #[tactic(auto, using(crate::proofs::Headers::num_1), unfolding(crate::specs::Header::parsed))]
     fn check_start(&self) -> Result<(), Refusal>
-        ensures { MatchResult result (λ passed. Begun self.now.part.now self.now.offset self.now.offset_size)
-            (λ cause. refusal_of cause ≡ parsed self.now.part.now self.now.offset self.now.offset_size self.now.length_size) }
+        ensures { let h = self.now in MatchResult result (λ passed. Begun h.part.now h.offset h.offset_size)
+            (λ cause. refusal_of cause ≡ parsed h.part.now h.offset h.offset_size h.length_size) }
     {
         read_checks::ensure_len(self.part, self.offset, 4)?;
         let at = self.offset as usize;
@@ -93,11 +95,11 @@ impl<'a> HeaderAt<'a> {
     }
 
     // The tests from there on.
-    #[tactic(auto, using(crate::proofs::Headers::rest_is), unfolding(crate::specs::Header::parsed))]
+    #[tactic(auto, unfolding(crate::specs::Header::parsed))]
     fn check_rest(&self) -> Result<(), Refusal>
-        requires { Begun self.now.part.now self.now.offset self.now.offset_size }
-        ensures { MatchResult result (λ passed. FieldsThere self.now.part.now self.now.offset self.now.offset_size self.now.length_size)
-            (λ cause. refusal_of cause ≡ parsed self.now.part.now self.now.offset self.now.offset_size self.now.length_size) }
+        requires { let h = self.now in Begun h.part.now h.offset h.offset_size }
+        ensures { let h = self.now in MatchResult result (λ passed. FieldsThere h.part.now h.offset h.offset_size h.length_size)
+            (λ cause. refusal_of cause ≡ parsed h.part.now h.offset h.offset_size h.length_size) }
     {
         let root_end = 16 + self.offset_size as u64;
         read_checks::ensure_len(self.part, self.offset, root_end)?;
@@ -113,10 +115,9 @@ impl<'a> HeaderAt<'a> {
     }
 
     // The fields.
-    #[tactic(auto, using(crate::proofs::Headers::fields_are, crate::proofs::Headers::le_2, crate::proofs::Headers::le_4))]
     fn fields(&self) -> BTreeV2Header
-        requires { FieldsThere self.now.part.now self.now.offset self.now.offset_size self.now.length_size }
-        ensures { result ≡ with_base self.now.base (header_at self.now.part.now self.now.offset self.now.offset_size self.now.length_size) }
+        requires { let h = self.now in FieldsThere h.part.now h.offset h.offset_size h.length_size }
+        ensures { let h = self.now in result ≡ with_base h.base (header_at h.part.now h.offset h.offset_size h.length_size) }
     {
         let part = self.part;
         let at = self.offset as usize;
@@ -146,7 +147,7 @@ fn bytes_at<const N: usize>(data: &[u8], at: usize) -> [u8; N]
 }
 
 // The number in the two, four or eight bytes at `at`.
-#[tactic(auto, using(crate::proofs::Headers::eight_there, crate::proofs::Headers::sized_2, crate::proofs::Headers::sized_4, crate::proofs::Headers::sized_8))]
+#[tactic(auto, using(crate::proofs::Headers::sized_2, crate::proofs::Headers::sized_4, crate::proofs::Headers::sized_8))]
 fn read_sized(data: &[u8], at: usize, size: u8) -> u64
     requires { (field_size size ≡ true) × (at + size ≤ length «data».now) }
     ensures { result ≡ num «data».now at size }

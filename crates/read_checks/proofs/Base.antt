@@ -1,5 +1,4 @@
--- Reading behind a block: the part from the base on, a block in front and base 0, and what the verdict on a base tells.
-use Rattle.std.specs.Prelude.{Result, Ok, Err, ⊤}
+-- Reading behind a block: the part from the base on, a block in front and base 0.
 use mathlib.Core.Path.{◌≡◌, refl, sym, ◌∙◌}
 use mathlib.Core.Bool.{Bool, true, false}
 use mathlib.Core.List.{List, [], ◌++◌}
@@ -11,10 +10,8 @@ use lib.Seq.{drop_at}
 use borrow.Author.Tests.{leb-true, leb-false, le-leb, lt-leb}
 use Rattle.numbers.specs.Numbers.{part}
 use Rattle.numbers.proofs.Lists.{part_rest}
-use Rattle.refusal.specs.Answer.{accepted, refused, refusal_of, or_else, verdict_of}
-use Rattle.refusal.specs.declared.Refusal.{Refusal}
-use Rattle.read_checks.specs.Base.{on_part, base_test}
-use Rattle.read_checks.proofs.Checks.{verdict_passed, verdict_failed, verdict_stopped}
+use Rattle.refusal.specs.Answer.{or_else}
+use Rattle.read_checks.specs.Base.{on_part}
 
 module _ {A : Type 0} (refusal : A) (read : List ℕ → A) where
   module _ (file : List ℕ) (base : ℕ) where
@@ -47,27 +44,3 @@ module _ {A : Type 0} (refusal : A) (read : List ℕ → A) where
 -- The part as it is lent on.
 pub lent_part : (file : List ℕ) (base : ℕ) → part file base (length file - base) ≡ drop base file
 lent_part file base = part_rest file base (length file - base) (omega arith)
-
--- `check_base`.
-pub base_above : (file : List ℕ) (base : ℕ) → length file < base → refused 18 [] ≡ base_test file base
-unfolding on_part
-base_above file base h = rw (lt-leb base (length file) h)
-
-pub base_at_most : (file : List ℕ) (base : ℕ) → base ≤ length file → accepted [] ≡ base_test file base
-unfolding on_part
-base_at_most file base h = rw (le-leb base (length file) h)
-
--- What its verdict tells.
-module _ (file : List ℕ) (base : ℕ) (v : Result ⊤ Refusal) (code : verdict_of v ≡ base_test file base) where
-  pub base_within : v ≡ Ok tt → base ≤ length file
-  unfolding on_part
-  base_within e = leb-true base (length file) (verdict_passed v (leb base (length file)) 18 [] code e)
-
-  module _ (r : Refusal) (e : v ≡ Err r) where
-    pub base_beyond : length file < base
-    unfolding on_part
-    base_beyond = leb-false base (length file) (verdict_failed v (leb base (length file)) 18 [] code r e)
-
-    pub refused_by_18 : refusal_of r ≡ refused 18 []
-    unfolding on_part
-    refused_by_18 = sym (verdict_stopped v (leb base (length file)) 18 [] code r e (accepted [])) ∙ rw (lt-leb base (length file) base_beyond)

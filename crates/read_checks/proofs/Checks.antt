@@ -8,7 +8,7 @@ use native.Mathlib.Nat.{add_assoc}
 use native.Mathlib.Omega.{arith}
 use lib.Dec.{leb, eqb}
 use lib.ListN.{length, get_or, take, drop, length-take, length-drop}
-use Rattle.std.specs.Cmp.Lexicographic.{pointwise, nat_list_eq_equiv}
+use Rattle.std.specs.Cmp.Lexicographic.{pointwise, unequal, nat_list_eq_equiv}
 use mir.Syntax.{w32}
 use mir.Val.{Fits}
 use borrow.Author.Tests.{leb-true, le-leb, lt-leb, eq-eqb, ne_eqb, not-true, not-false}
@@ -20,7 +20,6 @@ use Rattle.refusal.specs.declared.Refusal.{Refusal}
 use Rattle.refusal.specs.Answer.{Answer, accepted, refused, refusal_of, or_else, verdict_of, on_accepted}
 use Rattle.refusal.proofs.Answers.{refused_is}
 use Rattle.read_checks.specs.Tests.{needs, same, checksum_test}
-use Rattle.read_checks.proofs.Outcomes.{same_false, checksum_equal, checksum_differs}
 
 -- What the verdict of a test tells of the test.
 module _ (v : Result ⊤ Refusal) (t : Bool) (number : ℕ) (values : List ℕ)
@@ -32,13 +31,6 @@ module _ (v : Result ⊤ Refusal) (t : Bool) (number : ℕ) (values : List ℕ)
       by true h = refl
       by false h = cc
 
-  pub verdict_failed : (r : Refusal) → v ≡ Err r → t ≡ false
-  verdict_failed r e = by t (rw e at code)
-    where
-      by : (b : Bool) → refusal_of r ≡ or_else b (refused number values) (accepted []) → b ≡ false
-      by true h = let f = (refused_is r).2 in cc
-      by false h = refl
-
   pub verdict_stopped : (r : Refusal) → v ≡ Err r → (rest : Answer) → or_else t (refused number values) rest ≡ refusal_of r
   verdict_stopped r e rest = by t (rw e at code)
     where
@@ -46,21 +38,10 @@ module _ (v : Result ⊤ Refusal) (t : Bool) (number : ℕ) (values : List ℕ)
       by true h = let f = (refused_is r).2 in cc
       by false h = cc
 
--- A test and what goes on where it accepts.
-module _ (v : Result ⊤ Refusal) (first next : Answer) (code : verdict_of v ≡ first) where
-  pub first_refuses : (r : Refusal) → v ≡ Err r → verdict_of v ≡ on_accepted first next
-  first_refuses r e = rw (← code, e, (refused_is r).2)
-
-  pub first_accepts : v ≡ Ok tt → on_accepted first next ≡ next
-  first_accepts e = rw (← code, e)
-
 -- The same of `ensure_len` and of `check_checksum`.
 module _ (end length : ℕ) (v : Result ⊤ Refusal) (code : verdict_of v ≡ needs end length (accepted [])) where
   pub bytes_there : v ≡ Ok tt → end ≤ length
   bytes_there e = leb-true end length (verdict_passed v (leb end length) 1 (saturated end ∷ length ∷ []) code e)
-
-  pub bytes_missing : (r : Refusal) → v ≡ Err r → (rest : Answer) → needs end length rest ≡ refusal_of r
-  bytes_missing = verdict_stopped v (leb end length) 1 (saturated end ∷ length ∷ []) code
 
 module _ (file : List ℕ) (from end : ℕ) (v : Result ⊤ Refusal) (code : verdict_of v ≡ checksum_test file from end (accepted [])) where
   abbrev right : Bool
@@ -77,22 +58,6 @@ module _ (file : List ℕ) (from end : ℕ) (v : Result ⊤ Refusal) (code : ver
   unfolding checksum_test
   sum_wrong = verdict_stopped v right 6 figures code
 
--- A test that the code negates.
-module _ (t x : Bool) (is : t ≡ x) where
-  pub test_holds : not t ≡ false → x ≡ true
-  test_holds n = rw (← is) (not-false t n)
-
-  pub test_fails : not t ≡ true → x ≡ false
-  test_fails n = rw (← is) (not-true t n)
-
--- `ensure_len`: the end is saturated at 2^64 - 1, and no slice is that long.
-module _ (end length figure : ℕ) (h : figure ≡ saturated end) where
-  pub len_short : length < figure → refused 1 (figure ∷ length ∷ []) ≡ needs end length (accepted [])
-  len_short l = rw (lt-leb end length (omega arith), h)
-
-  pub len_enough : length < 2 ^ 63 → figure ≤ length → accepted [] ≡ needs end length (accepted [])
-  len_enough s l = rw (le-leb end length (omega arith))
-
 -- `has_signature`: the library's `==` at bytes is `same`; where fewer than four bytes are there, none are the signature's.
 same_is : (xs ys : List ℕ) → pointwise eqb xs ys ≡ same xs ys
 unfolding same
@@ -104,8 +69,8 @@ same_is (x ∷ xs) (y ∷ ys) = rw (same_is xs ys)
 module _ (l signature : List ℕ) (p : ℕ) (four : length signature ≡ 4) where
   pub signature_none : length l < p → false ≡ same (part l p 4) signature
   signature_none h =
-      let none : length (part l p 4) < 4 = simp (length-take, length-drop) (omega arith) in
-      sym (same_false _ _ (λ e. omega (arith, none, ap length e)))
+      let few : length (part l p 4) < 4 = simp (length-take, length-drop) (omega arith) in
+      sym (unequal eqb (part l p 4) signature (λ e. omega (arith, few, e))) ∙ same_is (part l p 4) signature
 
   pub signature_starts : (rest : List ℕ) → rest ≡ take (length l - p) (drop p l) → (starts : Bool)
       → starts ≡ pointwise eqb signature (take (length signature) rest) → starts ≡ same (part l p 4) signature
@@ -115,10 +80,3 @@ module _ (l signature : List ℕ) (p : ℕ) (four : length signature ≡ 4) wher
 module _ (l : List ℕ) (end x : ℕ) (stored : x ≡ num l end (min 4 8)) where
   pub word_fits : ((i : ℕ) → get_or l i 0 < 256) → Fits w32 x
   word_fits known = omega (arith, stored, num_lt l end 4 known)
-
-  module _ (from y : ℕ) (bytes : List ℕ) (these : bytes ≡ part l from (end - from)) (computed : y ≡ lookup3 bytes) where
-    pub sums_differ : (x ≡ y → ⊥) → refused 6 (x ∷ y ∷ []) ≡ checksum_test l from end (accepted [])
-    sums_differ n = sym (checksum_differs l from end _ x y stored (rw (← these) computed) n)
-
-    pub sums_equal : x ≡ y → accepted [] ≡ checksum_test l from end (accepted [])
-    sums_equal e = sym (checksum_equal l from end _ x y stored (rw (← these) computed) e)

@@ -1,8 +1,6 @@
 -- The laws of the shared tests: the crates above cite them too.
 pub mod Base
 pub mod Checks
-pub mod Nodes
 pub mod Passing
 pub mod Plain
-pub mod Outcomes
 pub mod Root

@@ -13,22 +13,11 @@ use Rattle.read_checks.specs.Tests.{no_records, root_test}
 pub none_in_all : (total root : ℕ) → total ≡ 0 → true ≡ no_records total root
 none_in_all total root e = rw (eq-eqb total 0 e)
 
-pub some_in_all : (total root : ℕ) → (total ≡ 0 → ⊥) → eqb root 0 ≡ no_records total root
-some_in_all total root h = rw (ne_eqb total 0 h)
-
 pub some_records : (total root : ℕ) → (total ≡ 0 → ⊥) → (root ≡ 0 → ⊥) → no_records total root ≡ false
 some_records total root h k = rw (ne_eqb total 0 h, ne_eqb root 0 k)
 
 -- The tests.
 module _ (rs depth : ℕ) where
-  pub root_8 : rs ≡ 0 → refused 8 [] ≡ root_test rs depth
-  unfolding root_test
-  root_8 e = rw (le-ltb 0 rs (omega arith))
-
-  pub root_16 : (rs ≡ 0 → ⊥) → 32 < depth → refused 16 (depth ∷ []) ≡ root_test rs depth
-  unfolding root_test
-  root_16 h l = rw (lt-ltb 0 rs (omega arith), lt-leb depth 32 l)
-
   pub root_passes : (rs ≡ 0 → ⊥) → depth ≤ 32 → accepted [] ≡ root_test rs depth
   unfolding root_test
   root_passes h l = rw (lt-ltb 0 rs (omega arith), le-leb depth 32 l)

@@ -43,10 +43,7 @@ pub fn ensure_len(data: &[u8], at: u64, count: u64) -> Result<(), Refusal>
 pub fn has_signature(data: &[u8], at: usize, signature: &[u8; 4]) -> bool
     ensures { result ≡ same (part «data».now at 4) signature.now }
 {
-    let Some(rest) = data.get(at..) else {
-        return false;
-    };
-    rest.starts_with(signature)
+    at <= data.len() && data[at..].starts_with(signature)
 }
 
 // The front of a node: its first 6 bytes are there, and it has this signature.
@@ -63,7 +60,7 @@ pub fn check_front(file: &[u8], address: u64, signature: &[u8; 4]) -> Result<(),
 
 // Refusal 6 where the number in the four bytes at `end` is not the checksum of the bytes from `from` to there; each is of as many bytes
 // as there are.
-#[tactic(auto, using(crate::proofs::Checks::word_fits, crate::proofs::Checks::sums_differ, crate::proofs::Checks::sums_equal))]
+#[tactic(auto, using(crate::proofs::Checks::word_fits), unfolding(crate::specs::Tests::checksum_test))]
 pub fn check_checksum(data: &[u8], from: usize, end: usize) -> Result<(), Refusal>
     ensures { verdict_of result ≡ checksum_test «data».now from end (accepted []) }
 {
