@@ -1,9 +1,8 @@
 -- A header read with a base: the whole call, base 0, a block in front, and a base beyond the file.
-use mathlib.Core.Path.{◌≡◌, refl, sym, ◌∙◌}
+use mathlib.Core.Path.{◌≡◌, refl}
 use mathlib.Core.List.{List, [], ◌++◌}
-use Prim.Native.Nat.{ℕ, ◌-◌, ◌≤◌, ◌<◌}
+use Prim.Native.Nat.{ℕ, ◌≤◌, ◌<◌}
 use lib.ListN.{length, drop}
-use Rattle.numbers.specs.Numbers.{part}
 use Rattle.refusal.specs.Answer.{Answer, accepted, refused, cells}
 use Rattle.refusal.proofs.Answers.{cells_zero}
 use Rattle.read_checks.proofs.Base.{on_part_within, on_part_beyond, on_part_whole, on_part_behind}

@@ -13,10 +13,10 @@ use Rattle.std.specs.Prelude.{Result, Ok, Err, ⊤, MatchResult}
 use Rattle.std.specs.Int.{byte_worth, sum_through, from_le_bytes}
 use Rattle.numbers.specs.Numbers.{part, num, unle, field_size}
 use Rattle.numbers.proofs.Lists.{part_cons, part_part, length_part}
-use Rattle.numbers.proofs.Numbers.{num_add, field_size_4, field_size_8}
+use Rattle.numbers.proofs.Numbers.{num_add, field_size_8}
 use Rattle.refusal.specs.declared.Refusal.{Refusal}
-use Rattle.refusal.specs.Answer.{Answer, accepted, refused, refusal_of, or_else, verdict_of}
-use Rattle.read_checks.specs.Tests.{needs, same, checksum_test}
+use Rattle.refusal.specs.Answer.{accepted, refusal_of, verdict_of}
+use Rattle.read_checks.specs.Tests.{checksum_test}
 use Rattle.read_checks.proofs.Checks.{sum_right, sum_wrong}
 use Rattle.btree_v2_header.specs.Header.{header_figures, header_at, with_base, parsed}
 use Rattle.btree_v2_header.specs.declared.BTreeV2Header.{BTreeV2Header}
@@ -37,7 +37,9 @@ sum_is b (suc k) h =
 module _ (l : List ℕ) (p k : ℕ) (there : p + suc k ≤ length l) where
   bytes_are : (b : List ℕ) → b ≡ part l p (suc k) → sum_through (λ i. byte_worth i (get_or b i 0)) k ≡ num l p (suc k)
   unfolding num
-  bytes_are b e = rw e (sum_is (part l p (suc k)) k (omega (arith, length_part l p (suc k) there)) ∙ rw (part_part l p (suc k) 0 (suc k) (omega arith), add-zero))
+  bytes_are b e =
+      rw e
+      (sum_is (part l p (suc k)) k (omega (arith, length_part l p (suc k) there)) ∙ rw (part_part l p (suc k) 0 (suc k) (omega arith), add-zero))
 
 -- In two, four and eight bytes.
 module _ (l b : List ℕ) (p x : ℕ) where
@@ -62,7 +64,7 @@ module _ (l : List ℕ) (p size : ℕ) (sized : (field_size size ≡ true) × (p
     is_8 : size ≡ 8
     is_8 = field_size_8 size sized.0 not-2 not-4
 
-    pub eight_there : p + 8 ≤ length l
+    eight_there : p + 8 ≤ length l
     eight_there = omega (arith, is_8)
 
     pub sized_8 : (b : List ℕ) (x : ℕ) → b ≡ part l p 8 → x ≡ from_le_bytes w64 b → x ≡ num l p size
@@ -73,9 +75,20 @@ module _ (file : List ℕ) (o ow lw : ℕ) (b : Begun file o ow) (there : o + (1
   answers : parsed file o ow lw ≡ checksum_test file o (o + (16 + ow + 2 + lw)) (accepted (header_figures (header_at file o ow lw)))
   unfolding parsed
   answers =
-      let e : o + (16 + ow + 2 + lw) ≡ o + 18 + ow + lw = omega arith in
-      let f : o + 4 ≤ length file = omega (arith, there) in
-      rw (le-leb (o + 4) (length file) (omega arith), b.signature, le-leb (o + 16) (length file) (omega arith), b.version, b.size, le-leb (o + 16 + ow) (length file) (omega arith), le-leb (o + 18 + ow) (length file) (omega arith), sized, le-leb (o + 18 + ow + lw) (length file) (omega arith), le-leb (o + (22 + ow + lw)) (length file) (omega arith), e)
+      let end : o + (16 + ow + 2 + lw) ≡ o + 18 + ow + lw = omega arith in
+      rw (
+        le-leb (o + 4) (length file) (omega arith),
+        b.signature,
+        le-leb (o + 16) (length file) (omega arith),
+        b.version,
+        b.size,
+        le-leb (o + 16 + ow) (length file) (omega arith),
+        le-leb (o + 18 + ow) (length file) (omega arith),
+        sized,
+        le-leb (o + 18 + ow + lw) (length file) (omega arith),
+        le-leb (o + (22 + ow + lw)) (length file) (omega arith),
+        end,
+      )
 
   pub rest_is : (v : Result ⊤ Refusal) → verdict_of v ≡ checksum_test file o (o + (16 + ow + 2 + lw)) (accepted [])
       → MatchResult v (λ passed. FieldsThere file o ow lw) (λ cause. refusal_of cause ≡ parsed file o ow lw)

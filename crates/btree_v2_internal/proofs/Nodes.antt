@@ -11,10 +11,10 @@ use Rattle.numbers.specs.Numbers.{num, saturated, field_size}
 use Rattle.numbers.proofs.Copying.{num_saturated}
 use Rattle.numbers.proofs.Numbers.{saturated_add}
 use Rattle.node_info.specs.Table.{pointer_size}
-use Rattle.refusal.specs.Answer.{Answer, accepted, refused, or_else}
+use Rattle.refusal.specs.Answer.{accepted}
 use Rattle.format.specs.Bytes.{internal_signature, records_end}
 use Rattle.btree_v2_internal.specs.Internal.{pointer_place, child_address, child_records, internal_body, internal_test}
-use Rattle.read_checks.specs.Tests.{needs, front_test}
+use Rattle.read_checks.specs.Tests.{front_test}
 use Rattle.read_checks.proofs.Passing.{passed, passed_both, there, front_there}
 use Rattle.read_checks.proofs.Plain.{Plain, accepts, refuses, plain_or, plain_on, front_plain}
 use Rattle.btree_v2_internal.specs.declared.Internal.{Internal}
