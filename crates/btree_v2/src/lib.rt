@@ -3,7 +3,7 @@
 
 #![tactic(auto)]
 
-ghost use Rattle.std.specs.Prelude.{◌≡◌, [], ◌∷◌, ◌≤◌, length};
+ghost use Rattle.std.specs.Prelude.{◌≡◌, [], ◌∷◌};
 ghost use Rattle.refusal.specs.Answer.{cells};
 ghost use Rattle.node_info.specs.Table.{tabled};
 ghost use Rattle.plan.specs.Planned.{plan_answer};
@@ -18,6 +18,7 @@ ghost use Rattle.header_figures.specs.Figures.{sizes, given, header_from};
 
 use btree_v2_collect::collect;
 use btree_v2_header::BTreeV2Header;
+use btree_v2_leaf::Leaf;
 use btree_v2_leaf_view::copy_leaf_record;
 use btree_v2_record::RecordValues;
 use field::Field;
@@ -44,7 +45,7 @@ pub extern "C" fn btree_v2_node_info(
         offset_size,
     };
     let computed = NodeInfo::compute(geometry, depth);
-    answer_columns::put_node_info(answer, computed);
+    answer_columns::put_node_info(answer, &computed);
 }
 
 // The plan: depth, nodes, leaves, image size.
@@ -64,7 +65,7 @@ pub extern "C" fn btree_v2_plan(
         offset_size,
     };
     let planned = BTreeV2Plan::new(record_count, geometry);
-    answers::put_plan(answer, planned);
+    *answer = answers::numbers_of(planned);
 }
 
 // A tree written: the header, the image, and the answer as the plan's.
@@ -102,26 +103,7 @@ pub extern "C" fn btree_v2_write(
         start,
     };
     let written = btree_v2_write::write(request, records, header, image);
-    answers::put_plan(answer, written);
-}
-
-// The header at an offset of the part of a file from a base on, into eight places, or nine with the base.
-fn parse_into(
-    file: &[u8],
-    base: u64,
-    offset: u64,
-    offset_size: u8,
-    length_size: u8,
-    answer: &mut [u64],
-)
-    requires { (8 ≤ length answer.old) × (length answer.old ≤ 9) }
-    ensures { answer.new ≡ cells (length answer.old) (parsed_at file.now base offset offset_size length_size) }
-{
-    let parsed = BTreeV2Header::parse(file, base, offset, offset_size, length_size);
-    answers::put_header(answer, parsed);
-    if 8 < answer.len() {
-        answer[8] = answers::carried_base(parsed);
-    }
+    *answer = answers::numbers_of(written);
 }
 
 // The reading calls. Those that end in `_at` read the part of a file from a base on, and count every place in it; the others read with base 0.
@@ -137,7 +119,9 @@ pub extern "C" fn btree_v2_parse(
 )
     ensures { answer.new ≡ cells 8 (parsed file.now offset offset_size length_size) }
 {
-    parse_into(file, 0, offset, offset_size, length_size, answer);
+    let mut numbers = [0; 9];
+    btree_v2_parse_at(file, 0, offset, offset_size, length_size, &mut numbers);
+    answer.copy_from_slice(&numbers[..8]);
 }
 
 #[unsafe(no_mangle)]
@@ -151,7 +135,8 @@ pub extern "C" fn btree_v2_parse_at(
 )
     ensures { answer.new ≡ cells 9 (parsed_at file.now base offset offset_size length_size) }
 {
-    parse_into(file, base, offset, offset_size, length_size, answer);
+    let parsed = BTreeV2Header::parse(file, base, offset, offset_size, length_size);
+    *answer = answers::numbers_of(parsed);
 }
 
 // The records of a header's tree put out. The answer has the refusal's number and two values, zeros where the call is accepted, and then,
@@ -168,7 +153,7 @@ pub extern "C" fn btree_v2_collect_at(
     ensures output_left { output.new ≡ run_output (collected_at file.now (header_from header.now offset_size) output.old) }
 {
     let collected = collect::collect_btree_v2_records(file, header_of(header, offset_size), output);
-    answers::put_collected(answer, collected);
+    *answer = answers::collected_numbers(collected);
 }
 
 #[unsafe(no_mangle)]
@@ -211,16 +196,15 @@ fn find_told(
     key_start: u64,
     key_width: u64,
     key: u64,
-    answer: &mut [u64; 6],
-)
-    ensures { answer.new ≡ found_at file.now (header_from figures.now offset_size) (field_at key_start key_width) key }
+) -> [u64; 6]
+    ensures { result ≡ found_at file.now (header_from figures.now offset_size) (field_at key_start key_width) key }
 {
     let field = Field {
         start: key_start,
         width: key_width,
     };
     let found = btree_v2_find::find(file, header_of(figures, offset_size), field, key);
-    answers::put_found(answer, found);
+    answers::found_numbers(found)
 }
 
 // The record of a header's tree that has the key sought in this field. The answer has the refusal's number and two values, zeros where the
@@ -237,7 +221,7 @@ pub extern "C" fn btree_v2_find(
 )
     ensures { answer.new ≡ found file.now (header_from header.now offset_size) (field_at key_start key_width) key }
 {
-    find_told(file, header, offset_size, key_start, key_width, key, answer);
+    *answer = find_told(file, header, offset_size, key_start, key_width, key);
 }
 
 #[unsafe(no_mangle)]
@@ -252,7 +236,7 @@ pub extern "C" fn btree_v2_find_at(
 )
     ensures { answer.new ≡ found_at file.now (header_from header.now offset_size) (field_at key_start key_width) key }
 {
-    find_told(file, header, offset_size, key_start, key_width, key, answer);
+    *answer = find_told(file, header, offset_size, key_start, key_width, key);
 }
 
 // Record `index` of a leaf, copied to the front of the output: its length, 0 where the index is not below the count.
@@ -270,8 +254,13 @@ pub extern "C" fn btree_v2_leaf_record_at(
     ensures answered { answer.new ≡ cells 3 (record_answer_at file.now base record_size address count index output.old) }
     ensures output_left { output.new ≡ record_exit_at file.now base record_size address count index output.old }
 {
-    let copied = copy_leaf_record(file, base, address, count, record_size, index, output);
-    answers::put_length(answer, copied);
+    let leaf = Leaf {
+        address,
+        count,
+        record_size,
+    };
+    let copied = copy_leaf_record(file, base, leaf, index, output);
+    *answer = answers::numbers_of(copied);
 }
 
 #[unsafe(no_mangle)]
@@ -296,7 +285,7 @@ pub extern "C" fn btree_v2_record_read(tree_type: u8, record: &[u8], answer: &mu
     ensures { answer.new ≡ cells 5 (record_read tree_type «record».now) }
 {
     let read = btree_v2_record::read_record(tree_type, record);
-    answers::put_values(answer, read);
+    *answer = answers::numbers_of(read);
 }
 
 // A record with these values, put at the front of the output: its length.
@@ -320,5 +309,5 @@ pub extern "C" fn btree_v2_record_write(
         creation_order,
     };
     let put = btree_v2_record::write_record(tree_type, values, output);
-    answers::put_length(answer, put);
+    *answer = answers::numbers_of(put);
 }

@@ -1,2 +1,0 @@
--- What stands in the caller's array.
-pub mod Putting
