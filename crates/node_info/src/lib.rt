@@ -62,39 +62,27 @@ pub struct NodeInfo {
 }
 
 // Records in a full leaf.
-#[tactic(auto, using(crate::proofs::Growing::leaf_small, crate::proofs::Growing::leaf_no_size, crate::proofs::Growing::leaf_is))]
+#[tactic(auto, unfolding(crate::specs::Capacity::leaf_capacity))]
 fn max_records_leaf(geometry: Geometry) -> u64
     ensures { result ≡ leaf_capacity geometry }
 {
-    if geometry.node_size <= NodeInfo::OVERHEAD {
-        return 0;
-    }
-    if geometry.record_size == 0 {
-        return 0;
-    }
-    (geometry.node_size - NodeInfo::OVERHEAD) as u64 / (geometry.record_size as u64)
+    let room = geometry.node_size.saturating_sub(NodeInfo::OVERHEAD) as u64;
+    room.checked_div(geometry.record_size as u64).unwrap_or(0)
 }
 
 // Records in a full internal node with child pointers like this.
-#[tactic(auto, using(crate::proofs::Growing::internal_small, crate::proofs::Growing::internal_no_size, crate::proofs::Growing::internal_is))]
+#[tactic(auto, unfolding(crate::specs::Capacity::internal_capacity))]
 fn max_records_internal(geometry: Geometry, pointer: ChildPointer) -> u64
     ensures { result ≡ internal_capacity geometry (pointer_size pointer) }
 {
     let size = pointer.size();
-    let taken = NodeInfo::OVERHEAD as u64 + size;
-    let room = geometry.node_size as u64;
-    if room <= taken {
-        return 0;
-    }
-    let each = (geometry.record_size as u64) + size;
-    if each == 0 {
-        return 0;
-    }
-    (room - taken) / each
+    let room = (geometry.node_size as u64).saturating_sub(NodeInfo::OVERHEAD as u64 + size);
+    room.checked_div((geometry.record_size as u64) + size)
+        .unwrap_or(0)
 }
 
 // The entries of the level above one whose subtrees hold `under` records, with child pointers like this.
-#[tactic(auto, using(crate::proofs::Growing::one_more, crate::proofs::Growing::level_is))]
+#[tactic(auto, using(crate::proofs::Growing::one_more), unfolding(crate::specs::Table::next_level))]
 pub fn level_above(geometry: Geometry, pointer: ChildPointer, under: u64) -> Level
     ensures { result ≡ next_level geometry (pointer_size pointer) under }
 {
@@ -116,7 +104,7 @@ impl NodeInfo {
     pub const LEVEL_LIMIT: u16 = 32;
 
     // The table of the leaf level alone, from which every table grows.
-    #[tactic(auto, using(crate::proofs::Growing::leaf_info))]
+    #[tactic(auto, unfolding(crate::specs::Table::info_at, crate::specs::Table::entries, crate::specs::Table::column_from, crate::specs::Table::level_at, crate::specs::Capacity::count_width, crate::specs::Capacity::total_width, crate::specs::Capacity::node_capacity, crate::specs::Capacity::subtree_capacity))]
     pub fn leaf_only(geometry: Geometry) -> NodeInfo
         ensures { result ≡ info_at geometry 0 }
     {
@@ -137,11 +125,10 @@ impl NodeInfo {
     pub fn pointer_to(&self, offset_size: u8, level: u16) -> ChildPointer
         ensures { result ≡ pointer_in self.now offset_size level }
     {
-        let total_size = if level <= NodeInfo::LEVEL_LIMIT {
-            self.levels[level as usize].cum_max_nrec_size
-        } else {
-            0
-        };
+        let total_size = self
+            .levels
+            .get(level as usize)
+            .map_or(0, |entries| entries.cum_max_nrec_size);
         ChildPointer {
             offset_size,
             count_size: self.max_nrec_size,
@@ -166,7 +153,7 @@ impl NodeInfo {
     }
 
     // The table of a tree of this depth.
-    #[tactic(auto, using(crate::proofs::Growing::info_more, crate::proofs::Growing::too_deep, crate::proofs::Growing::not_too_deep))]
+    #[tactic(auto, using(crate::proofs::Growing::info_more, crate::proofs::Columns::table_columns), unfolding(crate::specs::Table::tabled))]
     pub fn compute(geometry: Geometry, depth: u16) -> Result<NodeInfo, Refusal>
         ensures answer { table_answer result ≡ tabled geometry depth }
         ensures table { IfOk result (λ info. info ≡ info_at geometry depth) }

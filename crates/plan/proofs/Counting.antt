@@ -1,8 +1,9 @@
 -- Counting a subtree by its children's two numbers of records, in the forms in which the code has them.
 use mathlib.Core.Path.{◌≡◌, refl, ◌∙◌}
 use mathlib.Core.Bool.{false}
-use Prim.Native.Nat.{ℕ, suc, ◌+◌, ◌-◌, ◌*◌, ◌/◌, ◌%◌, ◌^◌, ◌≤◌, ◌<◌}
-use native.Mathlib.Nat.{one-mul, mul-le-mul_left, one-le-pow, zero-mul, zero-div, zero-mod, div-le_self}
+use mathlib.Core.Logic.{⊎_elim}
+use Prim.Native.Nat.{ℕ, suc, min, ◌+◌, ◌-◌, ◌*◌, ◌/◌, ◌%◌, ◌^◌, ◌≤◌, ◌<◌}
+use native.Mathlib.Nat.{one-mul, eq-zero-or-pos, mul-le-mul_left, one-le-pow, zero-mul, zero-div, zero-mod, div-le_self}
 use native.Mathlib.Omega.{arith}
 use lib.Dec.{ltb, lit<}
 use lib.Pow.{shl_exact}
@@ -28,30 +29,26 @@ pub thin_test : (d n : ℕ) → d ≤ 32 → ltb n (1 * 2 ^ (d + 1) % 2 ^ 64 - 1
 thin_test d n h = rw (power d h)
 
 -- What a node keeps and deals, by the ways out of `distribute`.
-pub distribute_none : (most n : ℕ) → n ≡ 0 → ◌≡◌ {A = Distribution} (record { kept = 1; base = 0; extra = 0 }) (distribution most n)
-distribute_none most n e =
-    let one : taken most n ≡ 1 = taken_one most n (omega arith) in
-    rw (one, e)
-
 pub distribute_one : (most n : ℕ) → n / 2 ≤ most
     → ◌≡◌ {A = Distribution} (record { kept = 1; base = (n - 1) / 2; extra = (n - 1) % 2 }) (distribution most n)
 distribute_one most n h = rw (taken_one most n (omega arith))
 
-module _ (most n : ℕ) (h : most < n / 2) where
-  many : taken most n ≡ n / (most + 1)
-  many = taken_quotient most n (omega arith)
-
-  pub distribute_all : n - n / (most + 1) ≡ 0 → ◌≡◌ {A = Distribution} (record { kept = n / (most + 1); base = 0; extra = 0 }) (distribution most n)
-  distribute_all e = rw (many, e, zero-div, zero-mod)
-
-  pub distribute_more : ◌≡◌ {A = Distribution}
-      (record {
-        kept = n / (most + 1);
-        base = (n - n / (most + 1)) / (n / (most + 1) + 1);
-        extra = (n - n / (most + 1)) % (n / (most + 1) + 1);
-      })
-      (distribution most n)
-  distribute_more = rw many
+-- Only where no child holds any can all be kept, and then nothing is left to deal.
+pub distribute_more : (most n : ℕ) → most < n / 2 → n < 2 ^ 64
+    → ◌≡◌ {A = Distribution}
+    (record {
+      kept = n / (most + 1);
+      base = (n - n / (most + 1)) / min (n / (most + 1) + 1) (2 ^ 64 - 1);
+      extra = (n - n / (most + 1)) % min (n / (most + 1) + 1) (2 ^ 64 - 1);
+    })
+    (distribution most n)
+distribute_more most n h l =
+    let many : taken most n ≡ n / (most + 1) = taken_quotient most n (omega arith) in
+    ⊎_elim
+    (λ (all : n - n / (most + 1) ≡ 0). rw (many, all, zero-div, zero-div, zero-mod, zero-mod))
+    (λ (some : 0 < n - n / (most + 1)).
+    let few : min (n / (most + 1) + 1) (2 ^ 64 - 1) ≡ n / (most + 1) + 1 = omega arith in rw (many, few))
+    (eq-zero-or-pos (n - n / (most + 1)))
 
 -- A leaf.
 pub count_leaf : (t : NodeInfo) (d n : ℕ) → d ≡ 0 → Counted t d n (record { nodes = 1; leaves = 1 })

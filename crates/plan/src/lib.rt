@@ -44,19 +44,12 @@ pub struct Distribution {
 }
 
 // How n records are distributed where each child's subtree holds `most` at most. Two children are what most nodes of a deep tree have.
-#[tactic(auto, using(crate::proofs::Counting::distribute_none, crate::proofs::Counting::distribute_one, crate::proofs::Counting::distribute_all, crate::proofs::Counting::distribute_more))]
+#[tactic(auto, using(crate::proofs::Counting::distribute_one, crate::proofs::Counting::distribute_more))]
 pub fn distribute(most: u64, n: u64) -> Distribution
     ensures { result ≡ distribution most n }
 {
-    if n == 0 {
-        return Distribution {
-            kept: 1,
-            base: 0,
-            extra: 0,
-        };
-    }
     if n / 2 <= most {
-        let rest = n - 1;
+        let rest = n.saturating_sub(1);
         return Distribution {
             kept: 1,
             base: rest / 2,
@@ -65,14 +58,7 @@ pub fn distribute(most: u64, n: u64) -> Distribution
     }
     let kept = n / (most + 1);
     let rest = n - kept;
-    if rest == 0 {
-        return Distribution {
-            kept,
-            base: 0,
-            extra: 0,
-        };
-    }
-    let children = kept + 1;
+    let children = kept.saturating_add(1);
     Distribution {
         kept,
         base: rest / children,
