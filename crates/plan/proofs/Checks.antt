@@ -5,7 +5,7 @@ use mathlib.Core.List.{List, [], ◌∷◌}
 use Prim.Native.Nat.{ℕ, suc, ◌≤◌, ◌<◌}
 use native.Mathlib.Omega.{arith}
 use lib.Dec.{leb, ltb, eqb}
-use borrow.Author.Tests.{leb-true, ltb-true, not-true, lt-ltb, le-ltb, le-leb, lt-leb, ne_eqb}
+use borrow.Author.Tests.{leb-true, ltb-true, not-true, lt-ltb, le-leb, ne_eqb}
 use Rattle.numbers.specs.Numbers.{field_size}
 use Rattle.refusal.specs.Answer.{Answer, accepted, refused, or_else}
 use Rattle.node_info.specs.Capacity.{subtree_capacity, node_capacity}

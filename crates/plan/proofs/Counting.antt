@@ -1,20 +1,24 @@
 -- Counting a subtree by its children's two numbers of records, in the forms in which the code has them.
-use mathlib.Core.Path.{◌≡◌, refl, ◌∙◌}
+use mathlib.Core.Path.{◌≡◌, refl, ap, ◌∙◌}
 use mathlib.Core.Bool.{false}
 use mathlib.Core.Logic.{⊎_elim}
 use Prim.Native.Nat.{ℕ, suc, min, ◌+◌, ◌-◌, ◌*◌, ◌/◌, ◌%◌, ◌^◌, ◌≤◌, ◌<◌}
-use native.Mathlib.Nat.{one-mul, eq-zero-or-pos, mul-le-mul_left, one-le-pow, zero-mul, zero-div, zero-mod, div-le_self}
+use native.Mathlib.Nat.{one-mul, eq-zero-or-pos, one-le-pow, zero-mul, zero-div, zero-mod, div-le_self}
 use native.Mathlib.Omega.{arith}
 use lib.Dec.{ltb, lit<}
 use lib.Pow.{shl_exact}
-use Rattle.node_info.specs.declared.NodeInfo.{NodeInfo}
+use Rattle.node_info.specs.declared.Level.{Level}
+use Rattle.node_info.specs.Table.{no_level}
+use lib.ListN.{length, get_or-append, length-append}
+use lib.Seq.{get_or-append_seam}
+use mathlib.Core.List.{List, [], ◌∷◌, ◌++◌}
 use Rattle.plan.specs.Steps.{capacity_in, Countable, Counted, FewChildren}
-use Rattle.plan.specs.Tree.{Tree, below, nodes, leaves}
+use Rattle.plan.specs.Tree.{below, nodes, leaves}
 use Rattle.plan.specs.Planned.{taken, distribution, plan_tree, thin}
 use Rattle.plan.specs.declared.Distribution.{Distribution}
 use Rattle.plan.specs.declared.Counts.{Counts}
 use Rattle.plan.proofs.Distributing.{share, extra, taken_one, taken_quotient, taken_pos, taken_le, extra_lt, all_children_more, all_children_less}
-use Rattle.plan.proofs.Plans.{plan_nodes, plan_leaves, plan_nodes_le}
+use Rattle.plan.proofs.Plans.{plan_agree, thin_agree, plan_nodes, plan_leaves, plan_nodes_le}
 use Rattle.plan.proofs.Thin.{thin_pos, thin_children}
 use Rattle.plan.proofs.Trees.{leaves_le_nodes}
 
@@ -51,90 +55,75 @@ distribute_more most n h l =
     (eq-zero-or-pos (n - n / (most + 1)))
 
 -- A leaf.
-pub count_leaf : (t : NodeInfo) (d n : ℕ) → d ≡ 0 → Counted t d n (record { nodes = 1; leaves = 1 })
+pub count_leaf : (b : List Level) (n : ℕ) → length b ≡ 0 → Counted b n (record { nodes = 1; leaves = 1 })
 unfolding nodes below leaves
-count_leaf t d n e =
-    rw e (record { «nodes» = refl; «leaves» = refl; few_nodes = lit< tt; few_leaves = lit< tt })
+count_leaf [] n e = record { «nodes» = refl; «leaves» = refl; few_nodes = lit< tt; few_leaves = lit< tt }
+count_leaf (x ∷ xs) n e = absurd (omega arith)
 
--- An internal node of level u + 1, whose children's subtrees hold `most`.
-module _ (t : NodeInfo) (u n : ℕ) (h : Countable t (suc u) n) where
-  abbrev most : ℕ
-  most = capacity_in t u
-
-  abbrev tree : (d : ℕ) → ℕ → Tree d
-  tree = plan_tree (capacity_in t)
-
-  thick : thin (capacity_in t) (suc u) n ≡ false
-  thick = h.thick (omega arith)
-
+-- An internal node whose children are of level u.
+module _ (c : ℕ → ℕ) (u n : ℕ) (few : n < 2 ^ 24) (thick : thin c (suc u) n ≡ false) where
   some : 1 ≤ n
-  some = thin_pos (capacity_in t) (suc u) n thick
+  some = thin_pos c (suc u) n thick
 
-  kept : taken most n ≤ n
-  kept = taken_le most n some
+  kept : taken (c u) n ≤ n
+  kept = taken_le (c u) n some
 
-  child_small : share most n + 1 < 2 ^ 24
+  child_small : share (c u) n + 1 < 2 ^ 24
   child_small =
-      omega (arith, h.few, kept, taken_pos most n, div-le_self (n - taken most n) (taken most n + 1))
+      omega (arith, kept, taken_pos (c u) n, div-le_self (n - taken (c u) n) (taken (c u) n + 1))
 
-  less_at : Countable t u (share most n)
-  less_at =
-      record {
-        deep = omega (arith, h.deep);
-        few = omega (arith, child_small);
-        small = λ v g. h.small v (omega arith);
-        thick = λ _. all_children_less (λ x. thin (capacity_in t) u x ≡ false) most n (thin_children (capacity_in t) u n thick);
-      }
+  less_thick : thin c u (share (c u) n) ≡ false
+  less_thick = all_children_less (λ x. thin c u x ≡ false) (c u) n (thin_children c u n thick)
 
-  more_at : (extra most n ≡ 0 → ⊥) → Countable t u (share most n + 1)
-  more_at ne =
-      record {
-        deep = omega (arith, h.deep);
-        few = child_small;
-        small = λ v g. h.small v (omega arith);
-        thick = λ _. all_children_more (λ x. thin (capacity_in t) u x ≡ false) most n (omega arith) (thin_children (capacity_in t) u n thick);
-      }
+  more_thick : (extra (c u) n ≡ 0 → ⊥) → thin c u (share (c u) n + 1) ≡ false
+  more_thick ne = all_children_more (λ x. thin c u x ≡ false) (c u) n (omega arith) (thin_children c u n thick)
 
-  counted_at : (all larger smaller : Counts)
-      → all.nodes ≡ extra most n * larger.nodes + (taken most n + 1 - extra most n) * smaller.nodes + 1
-      → all.leaves ≡ extra most n * larger.leaves + (taken most n + 1 - extra most n) * smaller.leaves
-      → extra most n * larger.nodes ≡ extra most n * nodes u (tree u (share most n + 1))
-      → extra most n * larger.leaves ≡ extra most n * leaves u (tree u (share most n + 1))
-      → Counted t u (share most n) smaller → Counted t (suc u) n all
-  counted_at all larger smaller hn hl ln ll less =
-      let all_nodes : all.nodes ≡ nodes (suc u) (tree (suc u) n) = rw (hn, ln, less.«nodes», plan_nodes (capacity_in t) u n) in
-      let all_leaves : all.leaves ≡ leaves (suc u) (tree (suc u) n) = rw (hl, ll, less.«leaves», plan_leaves (capacity_in t) u n) in
-      let few = plan_nodes_le (capacity_in t) (suc u) n thick in
-      record {
-        «nodes» = all_nodes;
-        «leaves» = all_leaves;
-        few_nodes = omega (arith, h.few);
-        few_leaves = omega (arith, h.few, leaves_le_nodes (suc u) (tree (suc u) n));
-      }
+-- The same where the children's level stands last of those below the root.
+module _ (b lower : List Level) (child : Level) (e : b ≡ lower ++ (child ∷ [])) where
+  long : length b ≡ suc (length lower)
+  long = rw (e, length-append) (omega arith)
 
--- The same of depth d in the code's terms.
-module _ (t : NodeInfo) (d n : ℕ) (h : Countable t d n) (ne : d ≡ 0 → ⊥) where
-  up : d ≡ suc (d - 1)
-  up = omega arith
+  top : capacity_in b (length lower) ≡ child.cum_max_nrec
+  top = rw e (ap (λ (l : Level). l.cum_max_nrec) (get_or-append_seam lower child [] no_level))
 
-  at : Countable t (suc (d - 1)) n
-  at = rw up at h
+  agree : (u : ℕ) → u < length lower → capacity_in b u ≡ capacity_in lower u
+  agree u h = rw e (ap (λ (l : Level). l.cum_max_nrec) (get_or-append lower (child ∷ []) no_level u h))
 
-  module _ (x : Distribution) (e : x ≡ distribution (capacity_in t (d - 1)) n) where
-    pub less_asks : Countable t (d - 1) x.base
-    less_asks = rw e (less_at t (d - 1) n at)
+  module _ (n : ℕ) (h : Countable b n) (x : Distribution) (hx : x ≡ distribution child.cum_max_nrec n) where
+    abbrev c : ℕ → ℕ
+    c = capacity_in b
 
-    pub more_asks : (x.extra ≡ 0 → ⊥) → Countable t (d - 1) (x.base + 1)
-    more_asks none = rw e (more_at t (d - 1) n at (rw e at none))
+    abbrev d : ℕ
+    d = length lower
+
+    thick : thin c (suc d) n ≡ false
+    thick = rw long at (h.thick (omega (arith, long)))
+
+    is : x ≡ distribution (c d) n
+    is = rw top hx
+
+    pub less_asks : Countable lower x.base
+    less_asks =
+        record {
+          few = rw is (omega (arith, child_small c d n h.few thick));
+          thick = λ _. rw (← thin_agree c (capacity_in lower) d x.base agree, is) (less_thick c d n h.few thick);
+        }
+
+    pub more_asks : (x.extra ≡ 0 → ⊥) → Countable lower (x.base + 1)
+    more_asks ne =
+        record {
+          few = rw is (child_small c d n h.few thick);
+          thick = λ _. rw (← thin_agree c (capacity_in lower) d (x.base + 1) agree, is) (more_thick c d n h.few thick (rw is at ne));
+        }
 
     kept_few : x.kept < 2 ^ 24
-    kept_few = rw e (omega (arith, kept t (d - 1) n at, h.few))
+    kept_few = rw is (omega (arith, kept c d n h.few thick, h.few))
 
     extra_few : x.extra ≤ x.kept
-    extra_few = rw e (omega (arith, extra_lt (capacity_in t (d - 1)) n))
+    extra_few = rw is (omega (arith, extra_lt (c d) n))
 
-    module _ (smaller : Counts) (less : Counted t (d - 1) x.base smaller) where
-      pub few_children : (m : ℕ) (larger : Counts) → Counted t (d - 1) m larger → FewChildren x larger smaller
+    module _ (smaller : Counts) (less : Counted lower x.base smaller) where
+      pub few_children : (m : ℕ) (larger : Counts) → Counted lower m larger → FewChildren x larger smaller
       few_children m larger more =
           record {
             kept = kept_few;
@@ -148,15 +137,27 @@ module _ (t : NodeInfo) (d n : ℕ) (h : Countable t d n) (ne : d ≡ 0 → ⊥)
       module _ (all larger : Counts)
           (hn : all.nodes ≡ x.extra * larger.nodes + (x.kept + 1 - x.extra) * smaller.nodes + 1)
           (hl : all.leaves ≡ x.extra * larger.leaves + (x.kept + 1 - x.extra) * smaller.leaves) where
-        counted : x.extra * larger.nodes ≡ x.extra * nodes (d - 1) (plan_tree (capacity_in t) (d - 1) (x.base + 1))
-            → x.extra * larger.leaves ≡ x.extra * leaves (d - 1) (plan_tree (capacity_in t) (d - 1) (x.base + 1))
-            → Counted t d n all
+        counted : x.extra * larger.nodes ≡ x.extra * nodes d (plan_tree c d (x.base + 1))
+            → x.extra * larger.leaves ≡ x.extra * leaves d (plan_tree c d (x.base + 1))
+            → Counted b n all
         counted ln ll =
-            rw up
-            (counted_at t (d - 1) n at all larger smaller (rw e at hn) (rw e at hl) (rw e at ln) (rw e at ll) (rw e at less))
+            let tree = plan_agree c (capacity_in lower) d x.base agree in
+            let less_nodes : smaller.nodes ≡ nodes d (plan_tree c d x.base) = rw tree less.«nodes» in
+            let less_leaves : smaller.leaves ≡ leaves d (plan_tree c d x.base) = rw tree less.«leaves» in
+            let all_nodes : all.nodes ≡ nodes (suc d) (plan_tree c (suc d) n) = rw (hn, ln, less_nodes, is, plan_nodes c d n) in
+            let all_leaves : all.leaves ≡ leaves (suc d) (plan_tree c (suc d) n) = rw (hl, ll, less_leaves, is, plan_leaves c d n) in
+            let few = plan_nodes_le c (suc d) n thick in
+            record {
+              «nodes» = rw long all_nodes;
+              «leaves» = rw long all_leaves;
+              few_nodes = omega (arith, h.few);
+              few_leaves = omega (arith, h.few, leaves_le_nodes (suc d) (plan_tree c (suc d) n));
+            }
 
-        pub count_one : x.extra ≡ 0 → Counted t d n all
+        pub count_one : x.extra ≡ 0 → Counted b n all
         count_one none = counted (rw (none, zero-mul, zero-mul)) (rw (none, zero-mul, zero-mul))
 
-        pub count_two : Counted t (d - 1) (x.base + 1) larger → Counted t d n all
-        count_two more = counted (rw more.«nodes») (rw more.«leaves»)
+        pub count_two : Counted lower (x.base + 1) larger → Counted b n all
+        count_two more =
+            let tree = plan_agree c (capacity_in lower) d (x.base + 1) agree in
+            counted (rw (tree, more.«nodes»)) (rw (tree, more.«leaves»))

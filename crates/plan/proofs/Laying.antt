@@ -1,20 +1,22 @@
 -- The ways out of `lay_out`, in the forms in which the code has them.
 use mathlib.Core.Path.{◌≡◌, refl, sym, ap, ◌∙◌}
 use mathlib.Core.Bool.{Bool, true, false, not, ◌||◌, ◌&&◌}
-use mathlib.Core.List.{List, [], ◌∷◌}
+use mathlib.Core.List.{[]}
 use Prim.Native.Nat.{ℕ, ◌+◌, ◌-◌, ◌*◌, ◌%◌, ◌^◌, ◌≤◌, ◌<◌}
 use native.Mathlib.Nat.{mul-le-mul}
 use native.Mathlib.Omega.{arith}
 use lib.Dec.{ltb, eqb}
-use borrow.Author.Tests.{not-true, not-false, eq-eqb, ne_eqb}
+use borrow.Author.Tests.{not-true, eq-eqb, ne_eqb}
 use mir.Syntax.{w64}
 use mir.Val.{Fits}
-use Rattle.numbers.specs.Numbers.{field_size}
-use Rattle.refusal.specs.Answer.{Answer, accepted, refused}
+use Rattle.refusal.specs.Answer.{accepted, refused}
 use Rattle.node_info.specs.Capacity.{subtree_capacity}
-use Rattle.node_info.proofs.Columns.{subtree_entry}
-use Rattle.node_info.specs.Table.{info_at}
+use Rattle.node_info.proofs.Columns.{levels_length, subtree_entry}
+use lib.ListN.{length, take, length-take}
+use lib.Seq.{get_or-take}
+use Rattle.node_info.specs.Table.{no_level}
 use Rattle.node_info.specs.declared.NodeInfo.{NodeInfo}
+use Rattle.node_info.specs.declared.Level.{Level}
 use Rattle.plan.specs.Steps.{Passed, Found, capacity_in, Countable, Counted}
 use Rattle.std.specs.Prelude.{Ok}
 use Rattle.plan.specs.declared.Counts.{Counts}
@@ -22,7 +24,7 @@ use Rattle.plan.specs.Planned.{thin, plan_depth, planned, plan_figures, plan_ans
 use Rattle.plan.proofs.Accepted.{thin_plan}
 use Rattle.plan.proofs.Checks.{checks_11, checks_passed}
 use Rattle.plan.proofs.Counting.{thin_test}
-use Rattle.plan.proofs.Depths.{holding, depth_small}
+use Rattle.plan.proofs.Depths.{depth_small}
 use Rattle.plan.proofs.Plans.{plan_agree, thin_agree}
 use Rattle.node_info.specs.declared.Geometry.{Geometry}
 
@@ -54,8 +56,12 @@ module _ (n : ℕ) (g : Geometry) (pass : Passed n g) (i : NodeInfo) (d : ℕ) (
       passed : plan_answer n g ≡ accepted (plan_figures n g)
       passed = checks_passed n g pass found.holds (passing ∙ ap not et)
 
-      agree : (u : ℕ) → u < d → capacity_in i u ≡ subtree_capacity g u
-      agree u h = subtree_entry g d i found.table u (omega arith) level_deep
+      long : length (take d i.levels) ≡ d
+      long = rw length-take (omega (arith, rw (← found.table) at (levels_length g d)))
+
+      agree : (u : ℕ) → u < d → capacity_in (take d i.levels) u ≡ subtree_capacity g u
+      agree u h =
+          ap (λ (l : Level). l.cum_max_nrec) (get_or-take d i.levels u no_level h) ∙ subtree_entry g d i found.table u (omega arith) level_deep
 
       short : (u : ℕ) → u < d → subtree_capacity g u < n
       short u h = depth_small n g u (rw found.is_depth at h)
@@ -63,25 +69,23 @@ module _ (n : ℕ) (g : Geometry) (pass : Passed n g) (i : NodeInfo) (d : ℕ) (
       thick : 0 < d → thin (subtree_capacity g) d n ≡ false
       thick h = rw found.is_depth (not-true _ (rw (ne_eqb n 0 (omega (arith, short 0 h)), et) at passing))
 
-      pub laid_countable : Countable i d n
+      pub laid_countable : Countable (take d i.levels) n
       laid_countable =
           record {
-            deep = omega (arith, level_deep);
             few = omega (arith, pass.few);
-            small = λ u h. rw (agree u h) (omega (arith, short u h, pass.few));
-            thick = λ h. rw (thin_agree (capacity_in i) (subtree_capacity g) d n agree) (thick h);
+            thick = λ h. rw (long, thin_agree (capacity_in (take d i.levels)) (subtree_capacity g) d n agree) (thick (rw long at h));
           }
 
-      pub laid_done : (counts : Counts) → Counted i d n counts
+      pub laid_done : (counts : Counts) → Counted (take d i.levels) n counts
           → Laid n g (Ok (record {
             plan = record { depth = d; nodes = counts.nodes; leaves = counts.leaves; image_size = counts.nodes * g.node_size };
             info = i;
           }))
       unfolding plan_figures planned
       laid_done counts counted =
-          let same = plan_agree (capacity_in i) (subtree_capacity g) d n agree in
-          let nx = rw (same, found.is_depth) at counted.«nodes» in
-          let ny = rw (same, found.is_depth) at counted.«leaves» in
+          let same = plan_agree (capacity_in (take d i.levels)) (subtree_capacity g) d n agree in
+          let nx = rw (long, same, found.is_depth) at counted.«nodes» in
+          let ny = rw (long, same, found.is_depth) at counted.«leaves» in
           record { answered = rw (passed, nx, ny, found.is_depth); table = rw found.is_depth at found.table }
 
 -- The image's size.

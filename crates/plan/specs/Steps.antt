@@ -1,8 +1,9 @@
 -- What the planner's private steps ask and give.
-use Rattle.std.specs.Prelude.{◌≡◌, true, false, ◌||◌, ℕ, ◌^◌, ◌≤◌, ◌<◌, ltb, eqb}
+use Rattle.std.specs.Prelude.{◌≡◌, true, false, ◌||◌, List, length, slice_index_or, ℕ, ◌^◌, ◌≤◌, ◌<◌, ltb, eqb}
 use Rattle.numbers.specs.Numbers.{field_size}
-use Rattle.node_info.specs.Table.{info_at, level_in}
+use Rattle.node_info.specs.Table.{info_at, no_level}
 use Rattle.node_info.specs.declared.NodeInfo.{NodeInfo}
+use Rattle.node_info.specs.declared.Level.{Level}
 use Rattle.node_info.specs.declared.Geometry.{Geometry}
 use Rattle.plan.specs.Tree.{nodes, leaves}
 use Rattle.plan.specs.Planned.{plan_tree, thin, plan_depth, empty_level}
@@ -24,21 +25,19 @@ pub record Found (n : ℕ) (g : Geometry) (info : NodeInfo) (depth : ℕ) : Type
   pub holds : (eqb n 0 || ltb (plan_depth n g) (empty_level n g)) ≡ true
   pub is_depth : depth ≡ plan_depth n g
 
--- The capacity of each level's subtrees, out of the table.
-abbrev pub capacity_in : NodeInfo → ℕ → ℕ
-capacity_in t u = (level_in t u).cum_max_nrec
+-- The capacity of the subtrees of each of these levels.
+abbrev pub capacity_in : List Level → ℕ → ℕ
+capacity_in levels u = (slice_index_or levels u no_level).cum_max_nrec
 
--- n records at depth d can be counted: the numbers are small, and no subtree is too thin.
-pub record Countable (t : NodeInfo) (d n : ℕ) : Type 0 where
-  pub deep : d < 33
+-- n records in a subtree with these levels below its root can be counted: they are few, and no subtree is too thin.
+pub record Countable (below : List Level) (n : ℕ) : Type 0 where
   pub few : n < 2 ^ 24
-  pub small : (u : ℕ) → u < d → capacity_in t u < 2 ^ 24
-  pub thick : 0 < d → thin (capacity_in t) d n ≡ false
+  pub thick : 0 < length below → thin (capacity_in below) (length below) n ≡ false
 
 -- They have these nodes and leaves.
-pub record Counted (t : NodeInfo) (d n : ℕ) (counts : Counts) : Type 0 where
-  pub «nodes» : counts.nodes ≡ nodes d (plan_tree (capacity_in t) d n)
-  pub «leaves» : counts.leaves ≡ leaves d (plan_tree (capacity_in t) d n)
+pub record Counted (below : List Level) (n : ℕ) (counts : Counts) : Type 0 where
+  pub «nodes» : counts.nodes ≡ nodes (length below) (plan_tree (capacity_in below) (length below) n)
+  pub «leaves» : counts.leaves ≡ leaves (length below) (plan_tree (capacity_in below) (length below) n)
   pub few_nodes : counts.nodes < 2 ^ 24
   pub few_leaves : counts.leaves < 2 ^ 24
 

@@ -8,7 +8,7 @@ ghost use Rattle.node_info.specs.Table.{info_at};
 ghost use Rattle.plan.specs.Steps.{Passed, Found, FewChildren, Countable, Counted};
 ghost use Rattle.plan.specs.Planned.{distribution, plan_answer, plan_answer_of, Laid};
 
-use node_info::{Geometry, NodeInfo};
+use node_info::{Geometry, Level, NodeInfo};
 use refusal::Refusal;
 
 // The limits of refusal 7.
@@ -88,25 +88,24 @@ impl Distribution {
     }
 }
 
-// The counts of a subtree of n records that is not too thin, where those of each level hold at most what the table says.
+// The counts of a subtree of n records that is not too thin, with these levels below its root.
 #[tactic(auto, using(crate::proofs::Counting::less_asks, crate::proofs::Counting::more_asks))]
-fn count_subtree(info: &NodeInfo, depth: usize, n: u64) -> Counts
-    requires { Countable info.now depth n }
-    ensures { Counted info.now depth n result }
+fn count_subtree(below: &[Level], n: u64) -> Counts
+    requires { Countable below.now n }
+    ensures { Counted below.now n result }
 {
-    if depth == 0 {
+    let Some((child, lower)) = below.split_last() else {
         return Counts {
             nodes: 1,
             leaves: 1,
         };
-    }
-    let under = depth - 1;
-    let distributed = distribute(info.levels[under].cum_max_nrec, n);
-    let smaller = count_subtree(info, under, distributed.base);
+    };
+    let distributed = distribute(child.cum_max_nrec, n);
+    let smaller = count_subtree(lower, distributed.base);
     if distributed.extra == 0 {
         return distributed.counts(smaller, smaller);
     }
-    let larger = count_subtree(info, under, distributed.base + 1);
+    let larger = count_subtree(lower, distributed.base + 1);
     distributed.counts(larger, smaller)
 }
 
@@ -152,7 +151,7 @@ fn lay_out_passed(record_count: u64, geometry: Geometry) -> Result<PlanAndTable,
     if is_thin(depth, record_count) {
         return Err(Refusal::SubtreeTooThin);
     }
-    let counts = count_subtree(&info, depth as usize, record_count);
+    let counts = count_subtree(&info.levels[..depth as usize], record_count);
     let plan = BTreeV2Plan {
         depth,
         nodes: counts.nodes,
