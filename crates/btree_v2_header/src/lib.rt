@@ -2,9 +2,10 @@
 
 #![tactic(auto)]
 
-ghost use Rattle.std.specs.Prelude.{◌≡◌, true, ◌+◌, ◌≤◌, length, MatchResult};
+ghost use Rattle.std.specs.Prelude.{◌≡◌, true, [], ◌+◌, ◌≤◌, length, MatchResult};
 ghost use Rattle.numbers.specs.Numbers.{field_size, part, num};
-ghost use Rattle.refusal.specs.Answer.{refusal_of};
+ghost use Rattle.refusal.specs.Answer.{accepted, refusal_of, verdict_of};
+ghost use Rattle.read_checks.specs.Tests.{needs};
 ghost use Rattle.btree_v2_header.specs.Header.{with_base, header_at, parsed};
 ghost use Rattle.btree_v2_header.specs.Answers.{Parses};
 ghost use Rattle.btree_v2_header.specs.Parsing.{ParsesPart, Begun, FieldsThere};
@@ -72,18 +73,25 @@ impl<'a> HeaderAt<'a> {
         Ok(self.fields())
     }
 
+    // Its first `count` bytes are there.
+    fn ensure_len(&self, count: u64) -> Result<(), Refusal>
+        ensures { let h = self.now in verdict_of result ≡ needs (h.offset + count) (length h.part.now) (accepted []) }
+    {
+        read_checks::ensure_len(self.part, self.offset, count)
+    }
+
     // The tests up to that of the offset size.
     #[tactic(auto, using(crate::proofs::Headers::num_1), unfolding(crate::specs::Header::parsed))]
     fn check_start(&self) -> Result<(), Refusal>
         ensures { let h = self.now in MatchResult result (λ passed. Begun h.part.now h.offset h.offset_size)
             (λ cause. refusal_of cause ≡ parsed h.part.now h.offset h.offset_size h.length_size) }
     {
-        read_checks::ensure_len(self.part, self.offset, 4)?;
+        self.ensure_len(4)?;
         let at = self.offset as usize;
         if !read_checks::has_signature(self.part, at, b"BTHD") {
             return Err(Refusal::InvalidBTreeV2Signature);
         }
-        read_checks::ensure_len(self.part, self.offset, 16)?;
+        self.ensure_len(16)?;
         let version = self.part[at + 4];
         if version != 0 {
             return Err(Refusal::InvalidBTreeV2Version(version));
@@ -102,14 +110,14 @@ impl<'a> HeaderAt<'a> {
             (λ cause. refusal_of cause ≡ parsed h.part.now h.offset h.offset_size h.length_size) }
     {
         let root_end = 16 + self.offset_size as u64;
-        read_checks::ensure_len(self.part, self.offset, root_end)?;
-        read_checks::ensure_len(self.part, self.offset, root_end + 2)?;
+        self.ensure_len(root_end)?;
+        self.ensure_len(root_end + 2)?;
         if !numbers::is_field_size(self.length_size) {
             return Err(Refusal::InvalidLengthSize(self.length_size));
         }
         let fields_end = root_end + 2 + self.length_size as u64;
-        read_checks::ensure_len(self.part, self.offset, fields_end)?;
-        read_checks::ensure_len(self.part, self.offset, fields_end + 4)?;
+        self.ensure_len(fields_end)?;
+        self.ensure_len(fields_end + 4)?;
         let at = self.offset as usize;
         read_checks::check_checksum(self.part, at, at + fields_end as usize)
     }
@@ -147,7 +155,7 @@ fn bytes_at<const N: usize>(data: &[u8], at: usize) -> [u8; N]
 }
 
 // The number in the two, four or eight bytes at `at`.
-#[tactic(auto, using(crate::proofs::Headers::sized_2, crate::proofs::Headers::sized_4, crate::proofs::Headers::sized_8))]
+#[tactic(auto, using(numbers::proofs::Numbers::field_size_8, crate::proofs::Headers::sized_2, crate::proofs::Headers::sized_4, crate::proofs::Headers::sized_8))]
 fn read_sized(data: &[u8], at: usize, size: u8) -> u64
     requires { (field_size size ≡ true) × (at + size ≤ length «data».now) }
     ensures { result ≡ num «data».now at size }

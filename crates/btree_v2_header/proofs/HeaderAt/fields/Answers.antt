@@ -5,8 +5,6 @@ use Rattle.btree_v2_header.proofs.HeaderAt.fields.Goals as goal
 
 pub returns : goal.returns
 returns c =
-    let file = c.args.self.now.part.now in
-    let there = c.requires.there in
     fields_are _ _ _ _ _ _ _ _ _ _ _ c.requires
     (le_4 _ _ _ _ (omega arith) c.bytes_at.ensures c.from_le_bytes.ensures)
     (le_2 _ _ _ _ (omega arith) c.bytes_at-2.ensures c.from_le_bytes-2.ensures)
