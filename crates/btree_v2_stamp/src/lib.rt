@@ -95,7 +95,7 @@ pub fn write_header(header: &mut [u8], request: &Request, root: &Root)
 {
     let offset_size = request.geometry.offset_size as usize;
     let length_size = request.length_size as usize;
-    let size = format::HEADER_OVERHEAD as usize + offset_size + length_size;
+    let size = request.header_size() as usize;
     if header.len() < size {
         return;
     }

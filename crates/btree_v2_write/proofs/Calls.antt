@@ -1,29 +1,26 @@
 -- The writing call: what its checks give to the functions that fill the outputs, and that these leave the defined bytes.
-use mathlib.Core.Path.{◌≡◌, refl, sym, ◌∙◌, ap, subst⁻¹}
-use mathlib.Core.List.{List, [], ◌∷◌}
+use mathlib.Core.Path.{◌≡◌, refl, sym, ◌∙◌, subst⁻¹}
+use mathlib.Core.List.{List}
 use mathlib.Core.Logic.{⊎_elim}
 use Prim.Native.Nat.{ℕ, ◌+◌, ◌-◌, ◌*◌, ◌^◌, ◌≤◌, ◌<◌}
 use native.Mathlib.Nat.{eq-zero-or-pos, one-le-pow, zero-add, zero-mul}
 use native.Mathlib.Omega.{arith}
 use lib.Dec.{lit<}
 use lib.Pow.{pow_mono, pow_pos}
-use lib.ListN.{length, get_or}
+use lib.ListN.{length}
 use Rattle.numbers.specs.Places.{put}
 use Rattle.numbers.proofs.Lists.{put_fits}
 use Rattle.numbers.proofs.Numbers.{field_size_le}
 use Rattle.refusal.specs.declared.Refusal.{Refusal}
-use Rattle.refusal.specs.Answer.{refused}
+use Rattle.refusal.specs.Answer.{accepted, refused, refusal_of}
 use Rattle.refusal.proofs.Answers.{refused_is}
 use Rattle.node_info.specs.declared.Geometry.{Geometry}
-use Rattle.node_info.specs.declared.NodeInfo.{NodeInfo}
-use Rattle.node_info.specs.Capacity.{count_width, total_width, subtree_capacity}
-use Rattle.node_info.specs.Table.{info_at}
-use Rattle.node_info.proofs.Columns.{total_entry, subtree_entry}
+use Rattle.node_info.specs.Capacity.{count_width}
 use Rattle.plan.specs.declared.BTreeV2Plan.{BTreeV2Plan}
-use Rattle.plan.specs.declared.PlanAnswer.{PlanAnswer}
-use Rattle.plan.specs.declared.PlanAnswer.TheVariants as plan-answer
+use Rattle.plan.specs.declared.PlanAndTable.{PlanAndTable}
+use Rattle.std.specs.Prelude.{Result, Ok, Err}
 use Rattle.plan.specs.Tree.{Tree, count, nodes, below, Everywhere}
-use Rattle.plan.specs.Planned.{planned, plan_figures, plan_answer_of}
+use Rattle.plan.specs.Planned.{planned, plan_figures, plan_numbers, plan_answer_of, laid_answer_of}
 use Rattle.plan.proofs.Accepted.{planned_none, planned_size}
 use Rattle.plan.proofs.Checks.{Plannable, accepted_plannable}
 use Rattle.plan.proofs.Depths.{depth_le, depth_small}
@@ -48,14 +45,17 @@ unfolding count
 empty_fits g h = record { node = omega arith; records = one-le-pow (count_width g) 256 (lit< tt); small = omega arith; total = λ p. absurd (omega arith) }
 
 -- An accepted write.
-module _ {q : Request} {p : BTreeV2Plan} {info : NodeInfo} {recs hdr img : List ℕ} (a : Accepted q p info recs hdr img) where
+module _ {q : Request} {laid : PlanAndTable} {recs hdr img : List ℕ} (a : Accepted q laid recs hdr img) where
+  abbrev p : BTreeV2Plan
+  p = laid.plan
+
   ok : Accepts q recs
   ok = accepts q recs hdr img _ a.figures
 
   room : Roomy q hdr img
   room = roomy q recs hdr img _ a.figures
 
-  known : Plannable q.record_count q.geometry × (◌≡◌ {A = List ℕ} (p.depth ∷ p.nodes ∷ p.leaves ∷ p.image_size ∷ []) (plan_figures q.record_count q.geometry))
+  known : Plannable q.record_count q.geometry × (◌≡◌ {A = List ℕ} (plan_numbers p) (plan_figures q.record_count q.geometry))
   known = accepted_plannable q.record_count q.geometry _ (plan_accepted q recs hdr img _ a.figures)
 
   depth_is : p.depth ≡ depth_of q
@@ -64,17 +64,6 @@ module _ {q : Request} {p : BTreeV2Plan} {info : NodeInfo} {recs hdr img : List 
 
   low : depth_of q ≤ 32
   low = depth_le q.record_count q.geometry
-
-  counts : info.max_nrec_size ≡ count_width q.geometry
-  unfolding info_at
-  counts = rw a.table
-
-  -- The table's entries are those of the levels.
-  caps : (u : ℕ) → u < depth_of q → get_or info.cum_max_nrec u 0 ≡ subtree_capacity q.geometry u
-  caps u h = subtree_entry q.geometry (depth_of q) info a.table u (omega arith) low
-
-  widths : (u : ℕ) → u < depth_of q → get_or info.cum_max_nrec_size u 0 ≡ total_width q.geometry u
-  widths u h = total_entry q.geometry (depth_of q) info a.table u (omega arith) low
 
   ends : q.start + nodes_of q * q.geometry.node_size < 2 ^ 64
   ends =
@@ -102,16 +91,16 @@ module _ {q : Request} {p : BTreeV2Plan} {info : NodeInfo} {recs hdr img : List 
       (eq-zero-or-pos q.record_count)
 
   -- The image can be written.
-  pub image_ready : Ready q info.max_nrec_size info.cum_max_nrec info.cum_max_nrec_size (length recs) (length img) p.depth q.record_count 0 0
+  pub image_ready : Ready q laid.info (length recs) (length img) p.depth q.record_count 0 0
   unfolding planned
   image_ready =
       rw depth_is
       (record {
-        low = low;
+        top = depth_of q;
+        table = a.table;
+        limit = low;
+        low = omega arith;
         size = omega (arith, known.0.pass);
-        counts = counts;
-        caps = caps;
-        widths = widths;
         few = omega (arith, known.0.pass);
         thick = λ deeper. (known.0.thick (some_records deeper));
         fits = rw tree_is all_fit;
@@ -166,35 +155,29 @@ module _ {q : Request} {p : BTreeV2Plan} {info : NodeInfo} {recs hdr img : List 
     both_done place e = record { header_left = header_done place e; image_left = image_done }
 
 -- `write`, by its two ways out.
-answer_is : (q : Request) (recs hdr img : List ℕ) (x : PlanAnswer) (info : NodeInfo)
-    → Checked q (record { records = length recs; header = length hdr; image = length img }) (plan_answer_of x) info → plan_answer_of x ≡ written q recs hdr img
-unfolding written
-answer_is q recs hdr img x info checked = checked.answered
+module _ {q : Request} (recs hdr img : List ℕ) {checked : Result PlanAndTable Refusal}
+    (c : Checked q (record { records = length recs; header = length hdr; image = length img }) checked) where
+  answer_is : laid_answer_of checked ≡ written q recs hdr img
+  unfolding written
+  answer_is = c.answered
 
-module _ {q : Request} {recs hdr img : List ℕ} {x : PlanAnswer} {info : NodeInfo}
-    (checked : Checked q (record { records = length recs; header = length hdr; image = length img }) (plan_answer_of x) info) where
-  pub wrote_refused : {r : Refusal} → x ≡ plan-answer.Refused r → Wrote q recs hdr img (plan_answer_of x) hdr img
+  pub wrote_refused : {r : Refusal} → checked ≡ Err r → Wrote q recs hdr img (plan_answer_of (Err r)) hdr img
   wrote_refused {r} e =
       let s = refused_is r in
-      let answered = answer_is q recs hdr img x info checked in
-      let no_write : written q recs hdr img ≡ refused s.0 s.1 = sym answered ∙ ap plan_answer_of e ∙ s.2 in
+      let answered : refusal_of r ≡ written q recs hdr img = rw e at answer_is in
+      let no_write : written q recs hdr img ≡ refused s.0 s.1 = sym answered ∙ s.2 in
       record {
         answered = answered;
         header_left = sym (header_left_lem q recs hdr img s.0 s.1 no_write);
         image_left = sym (image_left_lem q recs hdr img s.0 s.1 no_write);
       }
 
-  pub accepted_planned : {p : BTreeV2Plan} → x ≡ plan-answer.Planned p → Accepted q p info recs hdr img
-  unfolding written
-  accepted_planned e =
-      let figures = sym (answer_is q recs hdr img x info checked) ∙ ap plan_answer_of e in
-      record { figures = figures; table = rw figures at checked.table }
+  module _ {laid : PlanAndTable} (e : checked ≡ Ok laid) where
+    answered : accepted (plan_numbers laid.plan) ≡ written q recs hdr img
+    answered = rw e at answer_is
 
-  pub wrote_accepted : {p : BTreeV2Plan} {h i : List ℕ} → x ≡ plan-answer.Planned p → Outputs q recs hdr img h i
-      → Wrote q recs hdr img (plan_answer_of (plan-answer.Planned p)) h i
-  wrote_accepted e outputs =
-      record {
-        answered = sym (ap plan_answer_of e) ∙ answer_is q recs hdr img x info checked;
-        header_left = outputs.header_left;
-        image_left = outputs.image_left;
-      }
+    pub accepted_planned : Accepted q laid recs hdr img
+    accepted_planned = record { figures = sym answered; table = rw e at c.table }
+
+    pub wrote_accepted : {h i : List ℕ} → Outputs q recs hdr img h i → Wrote q recs hdr img (plan_answer_of (Ok laid.plan)) h i
+    wrote_accepted outputs = record { answered = answered; header_left = outputs.header_left; image_left = outputs.image_left }

@@ -1,5 +1,6 @@
 -- Filling an internal node within a budget of fields: its own records and its pointers, child by child. A loop's invariant says that what fills
 -- the rest, from the progress reached on, fills the whole.
+use Rattle.std.specs.Borrow.{MutBor}
 use mathlib.Core.Path.{◌≡◌, refl, sym, ◌∙◌, ap}
 use mathlib.Core.Logic.{⊎_elim}
 use mathlib.Core.Bool.{Bool, true, false}
@@ -20,23 +21,18 @@ use Rattle.numbers.proofs.Lists.{length_part}
 use Rattle.numbers.proofs.Filling.{joined_append, joined_one}
 use Rattle.numbers.proofs.Numbers.{le_length, lt_or_le}
 use Rattle.format.specs.declared.Request.{Request}
-use Rattle.node_info.specs.Capacity.{child_pointer_size}
+use Rattle.node_info.specs.declared.ChildPointer.{ChildPointer}
+use Rattle.node_info.specs.Table.{pointer_size}
 use Rattle.format.specs.Bytes.{internal_signature, address}
 use Rattle.format.specs.Fields.{front_fields, end_fields, with_end, record_fields}
 use Rattle.format.proofs.Fields.{records_joined, records_many}
 use Rattle.btree_v2_stamp.specs.Stamped.{stamped}
-use Rattle.btree_v2_write.specs.declared.filling.Progress.{Progress}
+use Rattle.btree_v2_write.specs.declared.filling.Filling.{Filling}
 use Rattle.btree_v2_write.specs.declared.node.Child.{Child}
 use Rattle.btree_v2_write.specs.declared.node.InternalNode.{InternalNode}
 use Rattle.btree_v2_write.specs.Filled.{Filled, start}
-use Rattle.btree_v2_write.specs.Shares.{two_sizes, with_one, records_after, pointer_size, pointer_to, pointers_to, nodes_of_all, PointerFits, PointersFit, InternalNodeFits, child_shares, children_of, content_fields, internal_node_fields}
+use Rattle.btree_v2_write.specs.Shares.{two_sizes, with_one, records_after, pointer_to, pointers_to, nodes_of_all, PointerFits, PointersFit, InternalNodeFits, child_shares, children_of, content_fields, internal_node_fields}
 use Rattle.btree_v2_write.proofs.Puts.{filled_nothing, filled_then, filled_long, front_place, node_filled}
-
-pub pick_lt : {A : Type 0} (i e : ℕ) (x y : A) → i < e → x ≡ pick (ltb i e) x y
-pick_lt i e x y h = rw (lt-ltb i e h)
-
-pub pick_le : {A : Type 0} (i e : ℕ) (x y : A) → e ≤ i → y ≡ pick (ltb i e) x y
-pick_le i e x y h = rw (le-ltb i e h)
 
 -- The children from child i on: child i and those after it.
 module _ {A : Type 0} (k e : ℕ) (large small : A) where
@@ -63,49 +59,48 @@ pub from_first : {A : Type 0} (k e : ℕ) (large small : A)
     → two_sizes (k + 1) e large small ≡ pick (ltb 0 e) large small ∷ from (k + 1) e large small 1
 from_first k e large small = sym (from_0 (k + 1) e large small) ∙ from_step (k + 1) e large small 0 (omega arith)
 
--- `put_own_records`
-module _ (o recs : List ℕ) (to₀ : Progress) (rs kept base extra r : ℕ) where
-  abbrev range_from : ℕ → List ℕ
-  range_from i = from kept extra (base + 1) base i
+-- `put_own_records`: the node's own records, of rs bytes each.
+module _ (rs : ℕ) (recs : List ℕ) (x : InternalNode) (front : Filling) where
+  abbrev kept : ℕ
+  kept = x.distributed.kept
 
-  abbrev own_records : List (List ℕ)
-  own_records = records_after rs recs (two_sizes kept extra (base + 1) base) r
+  abbrev shares_from : ℕ → List ℕ
+  shares_from i = from kept x.distributed.extra (x.distributed.base + 1) x.distributed.base i
 
   -- Before child i: the place, the record reached, and that what fills the rest fills the whole.
-  pub record RecordsLeft (d : List ℕ) (to : Progress) (next_record i : ℕ) : Type 0 where
-    pub within : i ≤ kept
-    pub place : to.at ≡ to₀.at + i * rs
-    pub reached : next_record + with_one (range_from i) ≡ r + with_one (two_sizes kept extra (base + 1) base)
-    pub long : length d ≡ length o
-    pub rest : (z : List ℕ) (end : Progress) → Filled d z to (records_after rs recs (range_from i) next_record) end → Filled o z to₀ own_records end
+  pub record RecordsLeft (to : Filling) (next i : ℕ) : Type 0 where
+    pub place : to.at ≡ front.at + i * rs
+    pub reached : next + with_one (shares_from i) ≡ x.first.records + with_one (child_shares x)
+    pub long : length to.node.now ≡ length front.node.now
+    pub rest : (end : Filling) → Filled to (records_after rs recs (shares_from i) next) end
+        → Filled front (records_after rs recs (child_shares x) x.first.records) end
 
-  pub records_start : RecordsLeft o to₀ r 0
+  pub records_start : RecordsLeft front x.first.records 0
   records_start =
       record {
-        within = zero-le;
         place = rw (zero-mul, add-zero);
         reached = rw from_0;
         long = refl;
-        rest = λ z end f. rw from_0 at f;
+        rest = λ end f. rw from_0 at f;
       }
 
-  module _ (node : to₀.at + kept * rs ≤ length o) (room : (r + with_one (two_sizes kept extra (base + 1) base)) * rs ≤ length recs) where
-    module _ (d : List ℕ) (to : Progress) (next_record i m : ℕ) (inv : RecordsLeft d to next_record i) (h : i < kept) (share : m ≡ pick (ltb i extra) (base + 1) base) where
-      record_left : range_from i ≡ m ∷ range_from (i + 1)
-      record_left = rw share (from_step kept extra (base + 1) base i h)
+  module _ (node : front.at + kept * rs ≤ length front.node.now) (room : (x.first.records + with_one (child_shares x)) * rs ≤ length recs) where
+    module _ {to : Filling} {next i m : ℕ} (inv : RecordsLeft to next i) (h : i < kept) (share : m ≡ pick (ltb i x.distributed.extra) (x.distributed.base + 1) x.distributed.base) where
+      record_left : shares_from i ≡ m ∷ shares_from (i + 1)
+      record_left = rw share (from_step kept x.distributed.extra (x.distributed.base + 1) x.distributed.base i h)
 
-      reached_next : next_record + m + 1 + with_one (range_from (i + 1)) ≡ r + with_one (two_sizes kept extra (base + 1) base)
+      reached_next : next + m + 1 + with_one (shares_from (i + 1)) ≡ x.first.records + with_one (child_shares x)
       unfolding with_one
       reached_next = let e = rw record_left at inv.reached in omega (arith, e)
 
       -- The record is in the list, and its place in the node.
-      pub record_there : (next_record + m + 1) * rs ≤ length recs
+      pub record_there : (next + m + 1) * rs ≤ length recs
       record_there =
           let e = reached_next in
-          let s : next_record + m + 1 ≤ r + with_one (two_sizes kept extra (base + 1) base) = omega arith in
+          let s : next + m + 1 ≤ x.first.records + with_one (child_shares x) = omega arith in
           le_trans (mul-le-mul_right rs s) room
 
-      pub record_place_lem : to.at + 1 * rs ≤ length d
+      pub record_place_lem : to.at + 1 * rs ≤ length to.node.now
       record_place_lem =
           let s : suc i ≤ kept = h in
           let t = rw suc-mul at (mul-le-mul_right rs s) in
@@ -113,30 +108,28 @@ module _ (o recs : List ℕ) (to₀ : Progress) (rs kept base extra r : ℕ) whe
 
       -- The numbers of a turn fit.
       module _ (pos : 0 < rs) (short : length recs < 2 ^ 64) where
-        pub record_next_fits : Fits w64 (next_record + m + 1)
-        record_next_fits = omega (arith, le-mul_of_pos_right (next_record + m + 1) pos, record_there)
+        pub record_next_fits : Fits w64 (next + m + 1)
+        record_next_fits = omega (arith, le-mul_of_pos_right (next + m + 1) pos, record_there)
 
-        pub record_fits : Fits w64 (next_record + m)
+        pub record_fits : Fits w64 (next + m)
         record_fits = omega (arith, record_next_fits)
 
-      pub records_turn : (d' : List ℕ) (to' : Progress) → Filled d d' to (record_fields rs recs 1 (next_record + m)) to'
-          → RecordsLeft d' to' (next_record + m + 1) (i + 1)
+      pub records_turn : {to' : Filling} → Filled to (record_fields rs recs 1 (next + m)) to' → RecordsLeft to' (next + m + 1) (i + 1)
       unfolding records_after
-      records_turn d' to' f =
-          let many : length (joined (record_fields rs recs 1 (next_record + m))) ≡ 1 * rs =
-          rw records_joined (length_part recs ((next_record + m) * rs) (1 * rs) (omega (arith, record_there))) in
+      records_turn {to'} f =
+          let many : length (joined (record_fields rs recs 1 (next + m))) ≡ 1 * rs =
+          rw records_joined (length_part recs ((next + m) * rs) (1 * rs) (omega (arith, record_there))) in
           record {
-            within = omega arith;
             place = omega (arith, f.place, many, inv.place);
             reached = reached_next;
             long = filled_long f (omega (arith, f.place, many, record_place_lem)) ∙ inv.long;
-            rest = λ z end g. inv.rest z end (rw record_left (filled_then (omega (arith, record_place_lem)) f g));
+            rest = λ end g. inv.rest end (rw record_left (filled_then (omega (arith, record_place_lem)) f g));
           }
 
-  pub records_end_lem : (d : List ℕ) (to : Progress) (next_record i : ℕ) → RecordsLeft d to next_record i → kept ≤ i → Filled o d to₀ own_records to
+  pub records_end_lem : {to : Filling} {next i : ℕ} → RecordsLeft to next i → kept ≤ i → Filled front (records_after rs recs (child_shares x) x.first.records) to
   unfolding records_after
-  records_end_lem d to next_record i inv h =
-      inv.rest d to (rw (from_end kept extra (base + 1) base i h) (filled_nothing d to))
+  records_end_lem {to} {next} {i} inv h =
+      inv.rest to (rw (from_end kept x.distributed.extra (x.distributed.base + 1) x.distributed.base i h) (filled_nothing to))
 
 -- A node x among the n nodes from node j on, or the one after them: its number fits, and so does its address.
 module _ (start j n ns : ℕ) (pos : 0 < ns) (short : start + (j + n) * ns < 2 ^ 64) (x : ℕ) (within : x ≤ j + n) where
@@ -147,7 +140,7 @@ module _ (start j n ns : ℕ) (pos : 0 < ns) (short : start + (j + n) * ns < 2 ^
   number_fits = omega (arith, le-mul_of_pos_right x pos, address_fits)
 
 -- `put_pointer`: the number of the child's root, its address, and three fields, one after another.
-module _ (q : Request) (L at w t j : ℕ) (x : Child) (fits : PointerFits q L at x w t j) where
+module _ (q : Request) (L at j : ℕ) (p : ChildPointer) (x : Child) (fits : PointerFits q L at x p j) where
   pub pointer_number : Fits w64 (j + (x.nodes - 1))
   pointer_number = number_fits q.start j x.nodes _ fits.size fits.short _ (omega (arith, fits.some))
 
@@ -155,104 +148,95 @@ module _ (q : Request) (L at w t j : ℕ) (x : Child) (fits : PointerFits q L at
   pointer_address = address_fits q.start j x.nodes _ fits.size fits.short _ (omega (arith, fits.some))
 
 -- The second and the third field fit too.
-module _ (q : Request) (o d : List ℕ) (w t j a : ℕ) (x : Child) (p p₁ : Progress) (fits : PointerFits q (length o) p.at x w t j)
-    (first : Filled o d p (le q.geometry.offset_size a ∷ []) p₁) where
-  first_place : p₁.at ≡ p.at + q.geometry.offset_size
+module _ {q : Request} {z : ChildPointer} {j : ℕ} (a : ℕ) {x : Child} {p p₁ : Filling} (fits : PointerFits q (length p.node.now) p.at x z j)
+    (first : Filled p (le z.offset_size a ∷ []) p₁) where
+  first_place : p₁.at ≡ p.at + z.offset_size
   first_place = rw (joined_one, le_length) at first.place
 
-  pub pointer_second : p₁.at + w ≤ length d
-  pointer_second =
-      let long = filled_long first (omega (arith, first_place, fits.bytes)) in omega (arith, first_place, fits.bytes, long)
+  first_long : length p₁.node.now ≡ length p.node.now
+  first_long = filled_long first (omega (arith, first_place, fits.bytes))
 
-  pub pointer_third : (e : List ℕ) (p₂ : Progress) → Filled d e p₁ (le w x.records ∷ []) p₂ → p₂.at + t ≤ length e
-  pointer_third e p₂ second =
-      let place = rw (joined_one, le_length) at second.place in
-      let long = filled_long first (omega (arith, first_place, fits.bytes)) in
-      let long' = filled_long second (omega (arith, place, pointer_second)) in
-      omega (arith, first_place, place, fits.bytes, long, long')
+  pub pointer_second : p₁.at + z.count_size ≤ length p₁.node.now
+  pointer_second = omega (arith, first_place, fits.bytes, first_long)
 
-pub pointer_put : (q : Request) (o d e f : List ℕ) (w t j a : ℕ) (x : Child) (p p₁ p₂ p₃ : Progress)
-    → PointerFits q (length o) p.at x w t j → a ≡ q.start + (j + (x.nodes - 1)) * q.geometry.node_size
-    → Filled o d p (le q.geometry.offset_size a ∷ []) p₁ → Filled d e p₁ (le w x.records ∷ []) p₂ → Filled e f p₂ (le t x.total ∷ []) p₃
-    → Filled o f p (pointer_to q w t x j) p₃
-unfolding pointer_to address
-pointer_put q o d e f w t j a x p p₁ p₂ p₃ fits is first second third =
-    let within : p.at ≤ length o = omega (arith, fits.bytes) in
-    let both = filled_then within (filled_then within first second) third in rw is at both
+  module _ {p₂ : Filling} (second : Filled p₁ (le z.count_size x.records ∷ []) p₂) where
+    second_place : p₂.at ≡ p₁.at + z.count_size
+    second_place = rw (joined_one, le_length) at second.place
 
-pointer_length : (q : Request) (w t : ℕ) (x : Child) (j : ℕ) → length (joined (pointer_to q w t x j)) ≡ child_pointer_size q.geometry w t
+    pub pointer_third : p₂.at + z.total_size ≤ length p₂.node.now
+    pointer_third =
+        let long = filled_long second (omega (arith, second_place, pointer_second)) in
+        omega (arith, first_place, second_place, fits.bytes, first_long, long)
+
+    pub pointer_put : a ≡ q.start + (j + (x.nodes - 1)) * q.geometry.node_size → {p₃ : Filling} → Filled p₂ (le z.total_size x.total ∷ []) p₃ → Filled p (pointer_to q z x j) p₃
+    unfolding pointer_to address
+    pointer_put is third =
+        let within : p.at ≤ length p.node.now = omega (arith, fits.bytes) in
+        let both = filled_then within (filled_then within first second) third in rw is at both
+
+pointer_length : (q : Request) (p : ChildPointer) (x : Child) (j : ℕ) → length (joined (pointer_to q p x j)) ≡ pointer_size p
 unfolding pointer_to joined
-pointer_length q w t x j = simp (length-append, le_length, add_assoc, add-zero)
+pointer_length q p x j = simp (length-append, le_length, add_assoc, add-zero)
 
 pick_some : (b : Bool) (x y : Child) → 0 < x.nodes → 0 < y.nodes → 0 < (pick b x y).nodes
 pick_some true x y h k = h
 pick_some false x y h k = k
 
--- `put_pointers`, before child i: the place, the node reached, and that what fills the rest fills the whole. The children are `kept` + 1, the
--- first `extra` of them large.
-pub record PointersLeft (o : List ℕ) (q : Request) (to₀ : Progress) (kept extra : ℕ) (large small : Child) (w t j : ℕ) (d : List ℕ) (to : Progress) (next i : ℕ) : Type 0 where
-  pub within : i ≤ kept + 1
-  pub place : to.at ≡ to₀.at + i * child_pointer_size q.geometry w t
-  pub reached : next + nodes_of_all (from (kept + 1) extra large small i) ≡ j + nodes_of_all (two_sizes (kept + 1) extra large small)
-  pub long : length d ≡ length o
-  pub rest : (z : List ℕ) (end : Progress) → Filled d z to (pointers_to q w t (from (kept + 1) extra large small i) next) end
-      → Filled o z to₀ (pointers_to q w t (two_sizes (kept + 1) extra large small) j) end
-
-module _ (o : List ℕ) (q : Request) (to₀ : Progress) (x₀ : InternalNode) where
-  abbrev kept : ℕ
-  kept = x₀.kept
-
-  abbrev w : ℕ
-  w = x₀.count_size
-
-  abbrev t : ℕ
-  t = x₀.total_size
+-- `put_pointers`, before child i: the place, the node reached, and that what fills the rest fills the whole.
+module _ (q : Request) (x₀ : InternalNode) (front : Filling) where
+  abbrev last : ℕ
+  last = x₀.distributed.kept
 
   abbrev width : ℕ
-  width = pointer_size q x₀
+  width = pointer_size x₀.pointer
 
-  abbrev pointers_from : ℕ → List Child
-  pointers_from i = from (kept + 1) x₀.extra x₀.large x₀.small i
+  abbrev pointers : List Child → ℕ → List (List ℕ)
+  pointers = pointers_to q x₀.pointer
 
-  abbrev Left : List ℕ → Progress → ℕ → ℕ → Type 0
-  Left d to next i = PointersLeft o q to₀ kept x₀.extra x₀.large x₀.small w t x₀.first_node d to next i
+  abbrev children_from : ℕ → List Child
+  children_from i = from (last + 1) x₀.distributed.extra x₀.large x₀.small i
 
-  pub pointers_start : Left o to₀ x₀.first_node 0
+  pub record PointersLeft (to : Filling) (next i : ℕ) : Type 0 where
+    pub place : to.at ≡ front.at + i * width
+    pub reached : next + nodes_of_all (children_from i) ≡ x₀.first.nodes + nodes_of_all (children_of x₀)
+    pub long : length to.node.now ≡ length front.node.now
+    pub rest : (end : Filling) → Filled to (pointers (children_from i) next) end → Filled front (pointers (children_of x₀) x₀.first.nodes) end
+
+  pub pointers_start : PointersLeft front x₀.first.nodes 0
   pointers_start =
       record {
-        within = zero-le;
         place = rw (zero-mul, add-zero);
         reached = rw from_0;
         long = refl;
-        rest = λ z end f. rw from_0 at f;
+        rest = λ end f. rw from_0 at f;
       }
 
-  module _ (d : List ℕ) (to : Progress) (next i : ℕ) (x : Child) (inv : Left d to next i) (h : i ≤ kept) (one : x ≡ pick (ltb i x₀.extra) x₀.large x₀.small) where
-    pointer_left : pointers_from i ≡ x ∷ pointers_from (i + 1)
-    pointer_left = rw one (from_step (kept + 1) x₀.extra x₀.large x₀.small i (omega arith))
+  module _ {to : Filling} {next i : ℕ} {x : Child} (inv : PointersLeft to next i) (h : i < last + 1) (one : x ≡ pick (ltb i x₀.distributed.extra) x₀.large x₀.small) where
+    pointer_left : children_from i ≡ x ∷ children_from (i + 1)
+    pointer_left = rw one (from_step (last + 1) x₀.distributed.extra x₀.large x₀.small i h)
 
-    next_reached : next + x.nodes + nodes_of_all (pointers_from (i + 1)) ≡ x₀.first_node + nodes_of_all (children_of x₀)
+    next_reached : next + x.nodes + nodes_of_all (children_from (i + 1)) ≡ x₀.first.nodes + nodes_of_all (children_of x₀)
     unfolding nodes_of_all
     next_reached = let e = rw pointer_left at inv.reached in omega (arith, e)
 
     -- What `put_pointer` asks.
-    module _ (fits : PointersFit q (length o) to₀.at x₀) where
-      pointer_room : to.at + width ≤ length d
+    module _ (fits : PointersFit q (length front.node.now) front.at x₀) where
+      pointer_room : to.at + width ≤ length to.node.now
       pointer_room =
-          let s : suc i ≤ kept + 1 = omega arith in
+          let s : suc i ≤ last + 1 = h in
           let m = rw suc-mul at (mul-le-mul_right width s) in omega (arith, m, inv.place, inv.long, fits.bytes)
 
       pointer_short : q.start + (next + x.nodes) * q.geometry.node_size < 2 ^ 64
       pointer_short =
           let e = next_reached in
-          let s : next + x.nodes ≤ x₀.first_node + nodes_of_all (children_of x₀) = omega arith in
+          let s : next + x.nodes ≤ x₀.first.nodes + nodes_of_all (children_of x₀) = omega arith in
           omega (arith, mul-le-mul_right q.geometry.node_size s, fits.short)
 
-      pub pointer_fits : PointerFits q (length d) to.at x w t next
+      pub pointer_fits : PointerFits q (length to.node.now) to.at x x₀.pointer next
       pointer_fits =
           record {
             bytes = pointer_room;
-            some = rw one (pick_some (ltb i x₀.extra) x₀.large x₀.small fits.large fits.small);
+            some = rw one (pick_some (ltb i x₀.distributed.extra) x₀.large x₀.small fits.large fits.small);
             size = fits.size;
             short = pointer_short;
           }
@@ -260,26 +244,21 @@ module _ (o : List ℕ) (q : Request) (to₀ : Progress) (x₀ : InternalNode) w
       pub next_fits : Fits w64 (next + x.nodes)
       next_fits = omega (arith, le-mul_of_pos_right (next + x.nodes) fits.size, pointer_short)
 
-      pub turn_fits : Fits w64 (i + 1)
-      turn_fits = omega (arith, fits.few)
-
-      pub pointers_turn : (d' : List ℕ) (to' : Progress) → Filled d d' to (pointer_to q w t x next) to' → Left d' to' (next + x.nodes) (i + 1)
+      pub pointers_turn : {to' : Filling} → Filled to (pointer_to q x₀.pointer x next) to' → PointersLeft to' (next + x.nodes) (i + 1)
       unfolding pointers_to
-      pointers_turn d' to' f =
-          let many = pointer_length q w t x next in
+      pointers_turn {to'} f =
+          let many = pointer_length q x₀.pointer x next in
           record {
-            within = omega arith;
             place = rw (add-one, suc-mul) (omega (arith, f.place, many, inv.place));
             reached = next_reached;
             long = filled_long f (omega (arith, f.place, many, pointer_room)) ∙ inv.long;
-            rest = λ z end g. inv.rest z end (rw pointer_left (filled_then (omega (arith, pointer_room)) f g));
+            rest = λ end g. inv.rest end (rw pointer_left (filled_then (omega (arith, pointer_room)) f g));
           }
 
-  pub pointers_end : (d : List ℕ) (to : Progress) (next i : ℕ) → Left d to next i → kept < i
-      → Filled o d to₀ (pointers_to q w t (children_of x₀) x₀.first_node) to
+  pub pointers_end : {to : Filling} {next i : ℕ} → PointersLeft to next i → last + 1 ≤ i → Filled front (pointers (children_of x₀) x₀.first.nodes) to
   unfolding pointers_to
-  pointers_end d to next i inv h =
-      inv.rest d to (rw (from_end (kept + 1) x₀.extra x₀.large x₀.small i (omega arith)) (filled_nothing d to))
+  pointers_end {to} {next} {i} inv h =
+      inv.rest to (rw (from_end (last + 1) x₀.distributed.extra x₀.large x₀.small i h) (filled_nothing to))
 
 -- How many fields the parts have, and how many bytes.
 length_two : {A : Type 0} (k e : ℕ) (x y : A) → length (two_sizes k e x y) ≡ k
@@ -302,69 +281,67 @@ unfolding records_after
 own_many rs recs [] r = refl
 own_many rs recs (m ∷ ms) r = rw (length-append, records_many, own_many rs recs ms (r + m + 1)) (omega arith)
 
-module _ (q : Request) (w t : ℕ) where
-  pointers_long : (xs : List Child) (j : ℕ) → length (joined (pointers_to q w t xs j)) ≡ length xs * child_pointer_size q.geometry w t
+module _ (q : Request) (p : ChildPointer) where
+  pointers_long : (xs : List Child) (j : ℕ) → length (joined (pointers_to q p xs j)) ≡ length xs * pointer_size p
   unfolding pointers_to joined
-  pointers_long [] j = sym (zero-mul (child_pointer_size q.geometry w t))
+  pointers_long [] j = sym (zero-mul (pointer_size p))
   pointers_long (x ∷ xs) j =
-      rw (joined_append, length-append, pointer_length q w t x j, pointers_long xs (j + x.nodes), suc-mul) (omega arith)
+      rw (joined_append, length-append, pointer_length q p x j, pointers_long xs (j + x.nodes), suc-mul) (omega arith)
 
-  pub pointers_many : (xs : List Child) (j : ℕ) → length (pointers_to q w t xs j) ≡ 3 * length xs
+  pub pointers_many : (xs : List Child) (j : ℕ) → length (pointers_to q p xs j) ≡ 3 * length xs
   unfolding pointers_to pointer_to
   pointers_many [] j = refl
   pointers_many (x ∷ xs) j = rw (length-append, pointers_many xs (j + x.nodes)) (omega arith)
 
--- `put_contents`: own records and pointers; `fill_internal`: front, contents, checksum, zeros.
-module _ (q : Request) (recs : List ℕ) (x : InternalNode) (fits : InternalNodeFits q (length recs) x) where
+-- `fill_internal`: front, own records, pointers, checksum, zeros.
+module _ {q : Request} (recs : List ℕ) {x : InternalNode} (fits : InternalNodeFits q (length recs) x) where
   abbrev own : List (List ℕ)
-  own = records_after q.geometry.record_size recs (child_shares x) x.first_record
+  own = records_after q.geometry.record_size recs (child_shares x) x.first.records
 
   abbrev ptrs : List (List ℕ)
-  ptrs = pointers_to q x.count_size x.total_size (children_of x) x.first_node
+  ptrs = pointers_to q x.pointer (children_of x) x.first.nodes
 
-  own_long : length (joined own) ≡ x.kept * q.geometry.record_size
-  own_long = rw (records_long q.geometry.record_size recs (child_shares x) x.first_record fits.in_list, length_two)
+  own_long : length (joined own) ≡ x.distributed.kept * q.geometry.record_size
+  own_long = rw (records_long q.geometry.record_size recs (child_shares x) x.first.records fits.in_list, length_two)
 
-  contents_long : length (joined (content_fields q recs x)) ≡ x.kept * q.geometry.record_size + (x.kept + 1) * pointer_size q x
+  contents_long : length (joined (content_fields q recs x)) ≡ x.distributed.kept * q.geometry.record_size + (x.distributed.kept + 1) * pointer_size x.pointer
   unfolding content_fields
   contents_long = rw (joined_append, length-append, own_long, pointers_long, length_two)
 
-  module _ (o : List ℕ) (front : Progress) (h : q.geometry.node_size ≤ length o) (at : front.at ≡ 6) where
-    pub own_room : front.at + x.kept * q.geometry.record_size ≤ length o
+  module _ (front : Filling) (h : q.geometry.node_size ≤ length front.node.now) (at : front.at ≡ 6) where
+    pub own_room : front.at + x.distributed.kept * q.geometry.record_size ≤ length front.node.now
     own_room = omega (arith, fits.bytes)
 
-    pub pointers_fit : (d : List ℕ) (mid : Progress) → Filled o d front own mid → PointersFit q (length d) mid.at x
-    pointers_fit d mid f =
-        record {
-          bytes = rw (filled_long f (omega (arith, f.place, own_long, fits.bytes))) (omega (arith, f.place, own_long, fits.bytes));
-          large = fits.some.0;
-          small = fits.some.1;
-          size = omega (arith, fits.bytes);
-          short = fits.short;
-          few = fits.few.0;
-        }
+    module _ {mid : Filling} (f : Filled front own mid) where
+      pub pointers_fit : PointersFit q (length mid.node.now) mid.at x
+      pointers_fit =
+          record {
+            bytes = rw (filled_long f (omega (arith, f.place, own_long, fits.bytes))) (omega (arith, f.place, own_long, fits.bytes));
+            large = fits.some.0;
+            small = fits.some.1;
+            size = omega (arith, fits.bytes);
+            short = fits.short;
+          }
 
-    pub contents_put : (d e : List ℕ) (mid end : Progress) → Filled o d front own mid → Filled d e mid ptrs end
-        → Filled o e front (content_fields q recs x) end
-    unfolding content_fields
-    contents_put d e mid end f g = filled_then (omega (arith, fits.bytes)) f g
+      pub contents_put : {end : Filling} → Filled mid ptrs end → Filled front (content_fields q recs x) end
+      unfolding content_fields
+      contents_put g = filled_then (omega (arith, fits.bytes)) f g
 
-  module _ (o d : List ℕ) (budget : ℕ) (front : Progress) (f : Filled o d (start budget) (front_fields internal_signature q.tree_type) front) where
+  module _ {m : MutBor (List ℕ)} {budget : ℕ} {front : Filling} (f : Filled (start m budget) (front_fields internal_signature q.tree_type) front) where
     pub internal_front : front.at ≡ 6
-    internal_front = front_place o d 73 78 q.tree_type budget front f
+    internal_front = front_place internal_signature q.tree_type refl f
 
-    module _ (h : q.geometry.node_size ≤ length o) where
-      pub internal_room : q.geometry.node_size ≤ length d
+    module _ (h : q.geometry.node_size ≤ length m.now) where
+      pub internal_room : q.geometry.node_size ≤ length front.node.now
       internal_room = let long = filled_long f (omega (arith, internal_front, fits.bytes)) in omega (arith, long)
 
-      pub internal_filled : (e z : List ℕ) (end : Progress) → Filled d e front (content_fields q recs x) end
-          → z ≡ stamped e end.at q.geometry.node_size end.left → z ≡ filled_to budget (internal_node_fields q recs x) o
+      pub internal_filled : {end : Filling} → Filled front (content_fields q recs x) end → {z : List ℕ}
+          → z ≡ stamped end.node.now end.at q.geometry.node_size end.left → z ≡ filled_to budget (internal_node_fields q recs x) m.now
       unfolding internal_node_fields
-      internal_filled e z end g hz =
-          node_filled o e z budget q.geometry.node_size end _ (filled_then zero-le f g)
-          (omega (arith, internal_front, g.place, contents_long, fits.bytes)) h hz
+      internal_filled g hz =
+          node_filled (filled_then zero-le f g) (omega (arith, internal_front, g.place, contents_long, fits.bytes)) h hz
 
   -- A node has fewer fields than the budget of a whole one.
-  pub internal_few : x.kept < 2 ^ 24 → length (internal_node_fields q recs x) ≤ 2 ^ 32
+  pub internal_few : x.distributed.kept < 2 ^ 24 → length (internal_node_fields q recs x) ≤ 2 ^ 32
   unfolding internal_node_fields content_fields with_end end_fields front_fields
   internal_few few = simp (length-append, own_many, pointers_many, length_two) (omega arith)

@@ -12,6 +12,7 @@ use lib.ListN.{length, replicate}
 use borrow.Author.Tests.{lt-ltb, le-ltb}
 use Rattle.numbers.specs.Numbers.{pick}
 use Rattle.numbers.proofs.Numbers.{lt_or_le}
+use Rattle.node_info.specs.declared.ChildPointer.{ChildPointer}
 use Rattle.node_info.specs.Capacity.{count_width, total_width}
 use Rattle.plan.specs.Tree.{count, size, below, nodes}
 use Rattle.plan.specs.Planned.{taken, children, kids_of, plan_tree, thin}
@@ -93,6 +94,11 @@ front_less [] h = absurd (not-suc-le-zero h)
 front_less (m ∷ []) h = omega arith
 front_less (m ∷ k ∷ ms) h = omega (arith, front_less (k ∷ ms) (omega arith))
 
+-- The bytes of the fields of a pointer to a subtree of depth d.
+abbrev pub child_pointer : Request → ℕ → ChildPointer
+child_pointer q d =
+    record { offset_size = q.geometry.offset_size; count_size = count_width q.geometry; total_size = total_width q.geometry d }
+
 module _ (q : Request) (d : ℕ) where
   -- A subtree as a child.
   abbrev child_at : ℕ → Child
@@ -142,13 +148,13 @@ module _ (q : Request) (recs : List ℕ) (d : ℕ) where
   records_kids (m ∷ []) h s r = refl
   records_kids (m ∷ k ∷ ms) h s r = rw (s.0, records_kids (k ∷ ms) (omega arith) s.1 (r + m + 1))
 
-  module _ (w t : ℕ) (e₁ : w ≡ count_width q.geometry) (e : t ≡ total_width q.geometry d) where
-    pointer_at_lem : (m j : ℕ) → pointer_fields q d (subtree q d m) j ≡ pointer_to q w t (child_at q d m) j
+  module _ (p : ChildPointer) (e : p ≡ child_pointer q d) where
+    pointer_at_lem : (m j : ℕ) → pointer_fields q d (subtree q d m) j ≡ pointer_to q p (child_at q d m) j
     unfolding pointer_fields pointer_to
-    pointer_at_lem m j = rw (e₁, e, root_place q d j m)
+    pointer_at_lem m j = rw (e, root_place q d j m)
 
     pointers_kids : (ms : List ℕ) → 0 < length ms → (j : ℕ)
-        → all_pointer_fields q d (kids_of (subtree q d) ms) j ≡ pointers_to q w t (children_at q d ms) j
+        → all_pointer_fields q d (kids_of (subtree q d) ms) j ≡ pointers_to q p (children_at q d ms) j
     unfolding kids_of all_pointer_fields pointers_to children_at
     pointers_kids [] h j = absurd (not-suc-le-zero h)
     pointers_kids (m ∷ []) h j = pointer_at_lem m j ∙ sym (append-nil _)
@@ -167,13 +173,12 @@ module _ (q : Request) (recs : List ℕ) (d n : ℕ) (thick : thin (capacities q
 
   -- The numbers of the node as the code has them.
   pub record Numbers (x : InternalNode) : Type 0 where
-    pub kept : x.kept ≡ taken cap n
-    pub base : x.base ≡ share cap n
-    pub extra : x.extra ≡ extra cap n
-    pub large : 0 < x.extra → x.large ≡ child_at q d (share cap n + 1)
+    pub kept : x.distributed.kept ≡ taken cap n
+    pub base : x.distributed.base ≡ share cap n
+    pub extra : x.distributed.extra ≡ extra cap n
+    pub large : 0 < x.distributed.extra → x.large ≡ child_at q d (share cap n + 1)
     pub small : x.small ≡ child_at q d (share cap n)
-    pub counts : x.count_size ≡ count_width q.geometry
-    pub total : x.total_size ≡ total_width q.geometry d
+    pub pointer : x.pointer ≡ child_pointer q d
 
   module _ (x : InternalNode) (is : Numbers x) where
     shares_are : child_shares x ≡ front (children cap n)
@@ -182,31 +187,31 @@ module _ (q : Request) (recs : List ℕ) (d n : ℕ) (thick : thin (capacities q
 
     children_are : children_of x ≡ children_at q d (children cap n)
     children_are =
-        two_any (x.kept + 1) x.extra x.large (child_at q d (share cap n + 1)) x.small is.large
+        two_any (x.distributed.kept + 1) x.distributed.extra x.large (child_at q d (share cap n + 1)) x.small is.large
         ∙ rw (is.small, is.kept, is.extra, ← children_two q d, two_children)
 
     -- The fields that the code puts are those of the planned node.
-    pub fields_are : internal_node_fields q recs x ≡ internal_fields q recs d (kids_of (subtree q d) (children cap n)) x.first_node x.first_record
+    pub fields_are : internal_node_fields q recs x ≡ internal_fields q recs d (kids_of (subtree q d) (children cap n)) x.first.nodes x.first.records
     unfolding internal_node_fields content_fields internal_fields
     fields_are =
-        let own = records_kids q recs d (children cap n) (children_some cap n) sized x.first_record in
-        let below = pointers_kids q recs d x.count_size x.total_size is.counts is.total (children cap n) (children_some cap n) x.first_node in
+        let own = records_kids q recs d (children cap n) (children_some cap n) sized x.first.records in
+        let below = pointers_kids q recs d x.pointer is.pointer (children cap n) (children_some cap n) x.first.nodes in
         rw (shares_are, children_are, own, below)
 
     -- So what document 02 says of a node that is being filled holds of what the code puts.
     pub planned_final_then_lent : (lent : List ℕ)
         → FinalThenLent
         (internal_node_fields q recs x)
-        (padded q.geometry.node_size (internal_bytes q recs d (kids_of (subtree q d) (children cap n)) x.first_node x.first_record))
+        (padded q.geometry.node_size (internal_bytes q recs d (kids_of (subtree q d) (children cap n)) x.first.nodes x.first.records))
         lent
-    planned_final_then_lent lent = rw fields_are (internal_final_then_lent q recs d _ x.first_node x.first_record lent)
+    planned_final_then_lent lent = rw fields_are (internal_final_then_lent q recs d _ x.first.nodes x.first.records lent)
 
     -- The subtree's image: its children's, and its root's.
-    pub image_is : subtree_image q recs (suc d) n x.first_node x.first_record
-        ≡ images q recs d (children cap n) x.first_node x.first_record ++ joined (internal_node_fields q recs x)
+    pub image_is : subtree_image q recs (suc d) n x.first.nodes x.first.records
+        ≡ images q recs d (children cap n) x.first.nodes x.first.records ++ joined (internal_node_fields q recs x)
     unfolding subtree_image image plan_tree
     image_is =
-        rw (fields_are, internal_joined, images_kids q recs d (children cap n) (children_some cap n) sized x.first_node x.first_record)
+        rw (fields_are, internal_joined, images_kids q recs d (children cap n) (children_some cap n) sized x.first.nodes x.first.records)
 
     pub nodes_are : nodes_of_all (children_of x) ≡ sum_of (subtree_nodes q d) (children cap n)
     nodes_are = rw (children_are, nodes_all q d (children cap n))

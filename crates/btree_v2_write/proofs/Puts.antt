@@ -1,5 +1,6 @@
 -- Fields put one after another, within a budget: puts compose, and a node's end comes after its fields.
-use mathlib.Core.Path.{◌≡◌}
+use mathlib.Core.Path.{◌≡◌, refl, ap, ◌∙◌}
+use Rattle.std.specs.Borrow.{MutBor}
 use mathlib.Core.List.{List, [], ◌∷◌, ◌++◌}
 use Prim.Native.Nat.{ℕ, zero, suc, ◌+◌, ◌-◌, ◌*◌, ◌^◌, ◌≤◌, ◌<◌, min}
 use native.Mathlib.Nat.{add-zero, zero-add, sub-zero, mul-le-mul_right, zero-min, min-zero, suc-min-suc}
@@ -18,46 +19,56 @@ use Rattle.format.specs.Fields.{front_fields, with_end, record_fields}
 use Rattle.format.proofs.Fields.{records_joined, records_many}
 use Rattle.btree_v2_stamp.specs.Stamped.{fronted, stamped}
 use Rattle.btree_v2_stamp.proofs.Frames.{fronted_is, node_stamped}
-use Rattle.btree_v2_write.specs.declared.filling.Progress.{Progress}
-use Rattle.btree_v2_write.specs.Filled.{Filled, start}
+use Rattle.btree_v2_write.specs.declared.filling.Filling.{Filling}
+use Rattle.btree_v2_write.specs.Filled.{Filled, Passed, start}
 
 -- No field; fields and then others.
-pub filled_nothing : (o : List ℕ) (p : Progress) → Filled o o p [] p
+pub filled_nothing : (p : Filling) → Filled p [] p
 unfolding joined
-filled_nothing o p =
+filled_nothing p =
     record {
+      same = refl;
       bytes = rw (take-nil, stored_nil);
       place = rw add-zero;
       left = rw sub-zero;
     }
 
-pub filled_then : {o d e : List ℕ} {p q r : Progress} {a b : List (List ℕ)} → p.at ≤ length o → Filled o d p a q → Filled d e q b r
-    → Filled o e p (a ++ b) r
-filled_then {o} {d} {e} {p} {q} {r} {a} {b} h f g =
+pub filled_then : {p q r : Filling} {a b : List (List ℕ)} → p.at ≤ length p.node.now → Filled p a q → Filled q b r → Filled p (a ++ b) r
+filled_then {p} {q} {r} {a} {b} h f g =
     record {
-      bytes = rw (g.bytes, f.bytes, f.left) (filled_turn o p.at q.at p.left a b h f.place);
+      same = g.same ∙ f.same;
+      bytes = rw (g.bytes, f.bytes, f.left) (filled_turn p.node.now p.at q.at p.left a b h f.place);
       place = rw (joined_append, length-append) (omega (arith, f.place, g.place));
       left = rw length-append (omega (arith, f.left, g.left));
     }
 
-pub filled_long : {o d : List ℕ} {p q : Progress} {a : List (List ℕ)} → Filled o d p a q → q.at ≤ length o → length d ≡ length o
-filled_long {o} {d} {p} {q} {a} f h = rw f.bytes (length_filled o p.at p.left a (omega (arith, f.place)))
+pub filled_long : {p q : Filling} {a : List (List ℕ)} → Filled p a q → q.at ≤ length p.node.now → length q.node.now ≡ length p.node.now
+filled_long {p} {q} {a} f h = rw f.bytes (length_filled p.node.now p.at p.left a (omega (arith, f.place)))
 
--- `put_number`: nothing is left, or one field is put.
-module _ (o : List ℕ) (p q : Progress) (x width : ℕ) (at : q.at ≡ p.at + width) (left : q.left ≡ p.left - 1) where
-  place_one : q.at ≡ p.at + length (joined (le width x ∷ []))
-  place_one = rw (joined_one, le_length) at
+-- `put_number`: nothing is left, or one field is put; and the place goes on.
+module _ (p d to : Filling) (x width : ℕ) (go : Passed d 1 width to) (name : d.node.ghost_name ≡ p.node.ghost_name) (at : d.at ≡ p.at) (left : d.left ≡ p.left) where
+  place_one : to.at ≡ p.at + length (joined (le width x ∷ []))
+  place_one = rw (joined_one, le_length) (go.place ∙ ap (λ n. n + width) at)
 
-  pub number_none : p.left ≡ 0 → Filled o o p (le width x ∷ []) q
+  left_one : to.left ≡ p.left - 1
+  left_one = go.left ∙ ap (λ n. n - 1) left
+
+  name_kept : to.node.ghost_name ≡ p.node.ghost_name
+  name_kept = ap (λ (m : MutBor (List ℕ)). m.ghost_name) go.same ∙ name
+
+  pub number_none : p.left ≤ 0 → d.node.now ≡ p.node.now → Filled p (le width x ∷ []) to
   unfolding joined
-  number_none none = record { bytes = rw (none, stored_nil); place = place_one; left = left }
+  number_none h e =
+      let none : p.left ≡ 0 = omega arith in
+      record { same = name_kept; bytes = rw (go.same, e, none, stored_nil); place = place_one; left = left_one }
 
-  pub number_put : p.at + width ≤ length o → (p.left ≡ 0 → ⊥) → (d : List ℕ) → d ≡ put o p.at (le width x) → Filled o d p (le width x ∷ []) q
-  number_put h some d e =
+  pub number_put : p.at + width ≤ length p.node.now → 0 < p.left → d.node.now ≡ put p.node.now p.at (le width x) → Filled p (le width x ∷ []) to
+  number_put h some e =
       record {
-        bytes = rw (take_all p.left (le width x ∷ []) (omega arith), joined_one, e, put_fits o p.at (le width x) (rw le_length h));
+        same = name_kept;
+        bytes = rw (go.same, e, take_all p.left (le width x ∷ []) (omega arith), joined_one, put_fits p.node.now p.at (le width x) (rw le_length h));
         place = place_one;
-        left = left;
+        left = left_one;
       }
 
 -- The first k of n records.
@@ -68,7 +79,7 @@ take_records size recs zero (suc n) r = rw min-zero
 take_records size recs (suc k) (suc n) r = rw (suc-min-suc, take_records size recs k n (r + 1))
 
 -- `put_records`: as many of them as are left, in one copy.
-module _ (p : Progress) (recs : List ℕ) (size n r m : ℕ) (fewer : m ≡ min n p.left) where
+module _ (p : Filling) (recs : List ℕ) (size n r m : ℕ) (fewer : m ≡ min n p.left) where
   records_take : take p.left (record_fields size recs n r) ≡ record_fields size recs m r
   records_take = rw fewer (take_records size recs p.left n r)
 
@@ -85,37 +96,40 @@ module _ (p : Progress) (recs : List ℕ) (size n r m : ℕ) (fewer : m ≡ min 
       pub records_bytes_fit : Fits w64 (m * size)
       records_bytes_fit = omega (arith, records_some)
 
-    module _ (o : List ℕ) (node : p.at + n * size ≤ length o) where
-      pub records_here : p.at + m * size ≤ length o
+    module _ (node : p.at + n * size ≤ length p.node.now) where
+      pub records_here : p.at + m * size ≤ length p.node.now
       records_here = let less : m ≤ n = omega arith in omega (arith, mul-le-mul_right size less)
 
-      pub records_put_lem : (d : List ℕ) (q : Progress) → q.at ≡ p.at + n * size → q.left ≡ p.left - n
-          → d ≡ put o p.at (part recs (r * size) (r * size + m * size - r * size)) → Filled o d p (record_fields size recs n r) q
-      records_put_lem d q at left e =
+      pub records_put_lem : {d to : Filling} → Passed d n (n * size) to → d.node.ghost_name ≡ p.node.ghost_name → d.at ≡ p.at → d.left ≡ p.left
+          → d.node.now ≡ put p.node.now p.at (part recs (r * size) (r * size + m * size - r * size)) → Filled p (record_fields size recs n r) to
+      records_put_lem {d} {to} go name at left e =
           let long : length (joined (record_fields size recs n r)) ≡ n * size =
           rw records_joined (length_part recs (r * size) (n * size) (omega arith)) in
           record {
-            bytes = rw (records_take, records_joined) (part_put o recs d p.at (r * size) (m * size) records_here records_some e);
-            place = rw long at;
-            left = rw records_many left;
+            same = ap (λ (m : MutBor (List ℕ)). m.ghost_name) go.same ∙ name;
+            bytes = rw (go.same, records_take, records_joined) (part_put p.node.now recs d.node.now p.at (r * size) (m * size) records_here records_some e);
+            place = rw long (go.place ∙ ap (λ k. k + n * size) at);
+            left = rw records_many (go.left ∙ ap (λ k. k - n) left);
           }
 
--- `put_front`, and the place after it.
-module _ (o d : List ℕ) (third fourth type budget : ℕ) (p : Progress) where
-  abbrev signature : List ℕ
-  signature = 66 ∷ 84 ∷ third ∷ fourth ∷ []
-
-  pub front_put : 6 ≤ length o → d ≡ fronted o signature type budget → p.at ≡ 0 + 6 → p.left ≡ budget - 3
-      → Filled o d (start budget) (front_fields signature type) p
+-- `begin`, and the place after the front.
+module _ {m : MutBor (List ℕ)} (s : List ℕ) (type : ℕ) {budget : ℕ} {to : Filling} where
+  pub front_put : length s ≡ 4 → 6 ≤ length m.now → to.node.ghost_name ≡ m.ghost_name → to.node.now ≡ fronted m.now s type budget → to.at ≡ 6
+      → to.left ≡ budget - 3 → Filled (start m budget) (front_fields s type) to
   unfolding joined front_fields
-  front_put h e at left = record { bytes = rw (e, fronted_is o third fourth type budget h); place = at; left = left }
+  front_put four h name e at left =
+      record { same = name; bytes = rw (e, fronted_is m.now s type budget h); place = rw (length-append, four) at; left = left }
 
-  pub front_place : Filled o d (start budget) (front_fields signature type) p → p.at ≡ 6
+  pub front_place : length s ≡ 4 → Filled (start m budget) (front_fields s type) to → to.at ≡ 6
   unfolding joined front_fields
-  front_place f = f.place
+  front_place four f = rw (length-append, four) at f.place
 
 -- A node's end, after its fields.
-pub node_filled : (o e z : List ℕ) (budget ns : ℕ) (p : Progress) (fields : List (List ℕ)) → Filled o e (start budget) fields p
-    → p.at + 4 ≤ ns → ns ≤ length o → z ≡ stamped e p.at ns p.left → z ≡ filled_to budget (with_end ns fields) o
-node_filled o e z budget ns p fields f h l hz =
-    rw filled_stored (node_stamped o e z fields budget p.at ns p.left f.bytes (rw zero-add at f.place) f.left h l hz)
+pub node_filled : {m : MutBor (List ℕ)} {z : List ℕ} {budget ns : ℕ} {to : Filling} {fields : List (List ℕ)} → Filled (start m budget) fields to
+    → to.at + 4 ≤ ns → ns ≤ length m.now → z ≡ stamped to.node.now to.at ns to.left → z ≡ filled_to budget (with_end ns fields) m.now
+node_filled {m} {z} {budget} {ns} {to} {fields} f h l hz =
+    rw filled_stored (node_stamped m.now to.node.now z fields budget to.at ns to.left f.bytes (rw zero-add at f.place) f.left h l hz)
+
+-- What is so of the filled node is so of what the borrow of it leaves.
+pub left_behind : {A : Type 0} {x y z : A} → y ≡ z → x ≡ y → x ≡ z
+left_behind e f = f ∙ e

@@ -9,15 +9,18 @@ use mir.Val.{Fits}
 use mir.Syntax.{w64}
 use borrow.Author.Tests.{le-ltb, lt-ltb}
 use lib.Dec.{ltb}
-use lib.ListN.{length, get_or, take, drop, length-append}
+use lib.ListN.{length, take, drop, length-append}
 use lib.Seq.{take_all, drop-drop}
 use Rattle.numbers.specs.Numbers.{pick}
 use Rattle.numbers.specs.Places.{stored, joined}
 use Rattle.numbers.proofs.Lists.{stored_nil, stored_append, length_stored, drop_stored_end}
-use Rattle.node_info.proofs.Capacities.{total_le}
-use Rattle.node_info.specs.Capacity.{total_width}
+use Rattle.node_info.specs.declared.NodeInfo.{NodeInfo}
+use Rattle.node_info.specs.declared.ChildPointer.{ChildPointer}
+use Rattle.node_info.specs.Table.{level_in, pointer_in}
+use Rattle.node_info.proofs.Columns.{subtree_entry, pointer_entry}
 use Rattle.plan.specs.Tree.{Tree, sum_kids, between, nodes, below, count, size, AllKids, Everywhere}
-use Rattle.plan.specs.Planned.{taken, children, kids_of, plan_tree, thin}
+use Rattle.plan.specs.declared.Distribution.{Distribution}
+use Rattle.plan.specs.Planned.{distribution, taken, children, kids_of, plan_tree, thin}
 use Rattle.plan.proofs.Distributing.{share, extra, taken_le, taken_pos, extra_lt, children_some}
 use Rattle.plan.proofs.Lists.{sum_of, AllOf, sum_kids_of}
 use Rattle.plan.proofs.Plans.{plan_size, plan_count}
@@ -33,7 +36,7 @@ use Rattle.btree_v2_write.specs.declared.node.InternalNode.{InternalNode}
 use Rattle.btree_v2_write.specs.Shares.{two_sizes, with_one, nodes_of_all, child_shares, children_of, internal_node_fields, InternalNodeFits}
 use Rattle.btree_v2_write.specs.Subtrees.{capacities, subtree, subtree_nodes, subtree_image, Ready, ChildOf, SubtreeWritten}
 use Rattle.btree_v2_write.proofs.Internal.{from, from_first, from_step, from_end, number_fits, internal_few}
-use Rattle.btree_v2_write.proofs.Planned.{two_children, each_child, one_each, images, images_kids, sized, Numbers, nodes_node, nodes_are, records_within, image_is}
+use Rattle.btree_v2_write.proofs.Planned.{child_pointer, two_children, each_child, one_each, images, images_kids, sized, Numbers, nodes_node, nodes_are, records_within, image_is}
 
 -- Bytes right after others.
 stored_turn : (o : List ℕ) (p q : ℕ) (x rest : List ℕ) → p ≤ length o → q ≡ p + length x
@@ -62,7 +65,7 @@ planned_records c zero n h = refl
 planned_records c (suc d) n h = plan_size c (suc d) n (h (omega arith))
 
 -- A subtree's image is as long as its nodes.
-length_subtree : {q : Request} {cs : ℕ} {most totals : List ℕ} {I d n j r : ℕ} (recs : List ℕ) → Ready q cs most totals (length recs) I d n j r
+length_subtree : {q : Request} {t : NodeInfo} {I d n j r : ℕ} (recs : List ℕ) → Ready q t (length recs) I d n j r
     → length (subtree_image q recs d n j r) ≡ subtree_nodes q d n * q.geometry.node_size
 unfolding subtree_image
 length_subtree {q} {d = d} {n} {j} {r} recs ready =
@@ -70,7 +73,7 @@ length_subtree {q} {d = d} {n} {j} {r} recs ready =
     length_image q recs d (subtree q d n) j r ready.fits record_range
 
 -- The children of a subtree of level d + 1 that is ready.
-module _ {q : Request} {cs : ℕ} {most totals : List ℕ} {R I d n j r : ℕ} (ready : Ready q cs most totals R I (suc d) n j r) where
+module _ {q : Request} {t : NodeInfo} {R I d n j r : ℕ} (ready : Ready q t R I (suc d) n j r) where
   abbrev kids : List ℕ
   kids = children (capacities q d) n
 
@@ -99,15 +102,15 @@ module _ {q : Request} {cs : ℕ} {most totals : List ℕ} {R I d n j r : ℕ} (
   nodes_below = nodes_node q [] d n thick
 
   child_ready : (i m next next_record : ℕ) → m ≡ pick (ltb i (extra (capacities q d) n)) (share (capacities q d) n + 1) (share (capacities q d) n)
-      → next + subtree_nodes q d m ≤ j + sum_of (subtree_nodes q d) kids → next_record + m ≤ r + n → Ready q cs most totals R I d m next next_record
+      → next + subtree_nodes q d m ≤ j + sum_of (subtree_nodes q d) kids → next_record + m ≤ r + n → Ready q t R I d m next next_record
   child_ready i m next next_record is at rest =
       let bytes = mul-le-mul_right {m = next + subtree_nodes q d m} {n = j + subtree_nodes q (suc d) n} q.geometry.node_size (omega (arith, nodes_below)) in
       record {
+        top = ready.top;
+        table = ready.table;
+        limit = ready.limit;
         low = omega (arith, ready.low);
         size = ready.size;
-        counts = ready.counts;
-        caps = λ u h. ready.caps u (omega arith);
-        widths = λ u h. ready.widths u (omega arith);
         few = omega (arith, ready.few);
         thick = λ _. rw is (each_child (capacities q d) n (λ y. thin (capacities q) d y ≡ false) (thin_children (capacities q) d n thick) i);
         fits = rw is (each_child (capacities q d) n (λ y. Everywhere (Fit q.geometry) d (subtree q d y)) kids_fit i);
@@ -128,9 +131,9 @@ module _ {q : Request} {cs : ℕ} {most totals : List ℕ} {R I d n j r : ℕ} (
       rw (← images_kids q recs d kids many (sized q recs d n thick) j r, long, sum_kids_of (subtree q d) (nodes d) kids many)
 
 -- A leaf.
-module _ (q : Request) (cs : ℕ) (most totals recs o : List ℕ) (depth n j r : ℕ) (ready : Ready q cs most totals (length recs) (length o) depth n j r) (none : depth ≡ 0) where
-  leaf : Ready q cs most totals (length recs) (length o) 0 n j r
-  leaf = subst (λ z. Ready q cs most totals (length recs) (length o) z n j r) none ready
+module _ (q : Request) (t : NodeInfo) (recs o : List ℕ) (depth n j r : ℕ) (ready : Ready q t (length recs) (length o) depth n j r) (none : depth ≡ 0) where
+  leaf : Ready q t (length recs) (length o) 0 n j r
+  leaf = subst (λ z. Ready q t (length recs) (length o) z n j r) none ready
 
   pub leaf_room : (j + 1) * q.geometry.node_size ≤ length o
   unfolding nodes below
@@ -145,8 +148,8 @@ leaf_few : (q : Request) (recs : List ℕ) (n r : ℕ) → n < 2 ^ 24 → length
 unfolding leaf_fields with_end end_fields front_fields
 leaf_few q recs n r h = simp (length-append, records_many) (omega arith)
 
-pub leaf_done : {q : Request} {cs : ℕ} {most totals recs o o' : List ℕ} {depth n j r whole : ℕ}
-    → Ready q cs most totals (length recs) (length o) depth n j r → depth ≡ 0 → 2 ^ 32 ≤ whole
+pub leaf_done : {q : Request} {t : NodeInfo} {recs o o' : List ℕ} {depth n j r whole : ℕ}
+    → Ready q t (length recs) (length o) depth n j r → depth ≡ 0 → 2 ^ 32 ≤ whole
     → o' ≡ stored o (j * q.geometry.node_size) (joined (take whole (leaf_fields q recs n r)))
     → SubtreeWritten q recs o o' depth n j r (record { records = n; total = n; nodes = 1 })
 unfolding subtree_image nodes below count size image plan_tree
@@ -155,14 +158,14 @@ leaf_done {q} {recs = recs} {o} {o'} {n = n} {j} {r} {whole} ready none many e =
     rw none (record { image = rw (all, leaf_joined) at e; child = record { records = refl; total = refl; nodes = refl } })
 
 -- A node of depth at least 1 that keeps k records; its children have b records, the first x of them one more.
-pub record Distribution (q : Request) (cs : ℕ) (most totals : List ℕ) (R I depth n j r k b x : ℕ) : Type 0 where
-  pub given : Ready q cs most totals R I depth n j r
+pub record Split (q : Request) (t : NodeInfo) (R I depth n j r k b x : ℕ) : Type 0 where
+  pub given : Ready q t R I depth n j r
   pub pos : depth ≡ 0 → ⊥
-  pub kept : k ≡ taken (get_or most (depth - 1) 0) n
-  pub base : b ≡ share (get_or most (depth - 1) 0) n
-  pub extra : x ≡ extra (get_or most (depth - 1) 0) n
+  pub kept : k ≡ taken (level_in t (depth - 1)).cum_max_nrec n
+  pub base : b ≡ share (level_in t (depth - 1)).cum_max_nrec n
+  pub extra : x ≡ extra (level_in t (depth - 1)).cum_max_nrec n
 
-module _ {q : Request} {cs : ℕ} {most totals : List ℕ} {R I depth n j r k b x : ℕ} (distributed : Distribution q cs most totals R I depth n j r k b x) where
+module _ {q : Request} {t : NodeInfo} {R I depth n j r k b x : ℕ} (distributed : Split q t R I depth n j r k b x) where
   abbrev under : ℕ
   under = depth - 1
 
@@ -172,11 +175,11 @@ module _ {q : Request} {cs : ℕ} {most totals : List ℕ} {R I depth n j r k b 
   deeper : depth ≡ suc under
   deeper = omega (arith, distributed.pos)
 
-  ready : Ready q cs most totals R I (suc under) n j r
-  ready = subst (λ z. Ready q cs most totals R I z n j r) deeper distributed.given
+  ready : Ready q t R I (suc under) n j r
+  ready = subst (λ z. Ready q t R I z n j r) deeper distributed.given
 
-  entry : get_or most under 0 ≡ capacities q under
-  entry = ready.caps under (omega arith)
+  entry : (level_in t under).cum_max_nrec ≡ capacities q under
+  entry = subtree_entry q.geometry ready.top t ready.table under (omega (arith, ready.low)) ready.limit
 
   k_is : k ≡ taken (capacities q under) n
   k_is = rw entry at distributed.kept
@@ -202,11 +205,8 @@ module _ {q : Request} {cs : ℕ} {most totals : List ℕ} {R I depth n j r k b 
   pub kept_small : k < 2 ^ 24
   kept_small = omega (arith, k_is, kept_few ready)
 
-  width_is : get_or totals under 0 ≡ total_width q.geometry under
-  width_is = ready.widths under (omega arith)
-
-  pub width_small : Fits w64 (get_or totals under 0)
-  width_small = omega (arith, width_is, total_le q.geometry under)
+  pointer_is : ◌≡◌ {A = ChildPointer} (pointer_in t q.geometry.offset_size under) (child_pointer q under)
+  pointer_is = pointer_entry q.geometry ready.top t ready.table under (omega (arith, ready.low)) ready.limit q.geometry.offset_size
 
   extra_few : x ≤ k
   extra_few = omega (arith, x_is, k_is, extra_lt (capacities q under) n)
@@ -216,7 +216,7 @@ module _ {q : Request} {cs : ℕ} {most totals : List ℕ} {R I depth n j r k b 
 
   -- Child i is ready where this node and this record are reached.
   kid : {I' : ℕ} (i m next next_record : ℕ) → I' ≡ I → m ≡ pick (ltb i x) (b + 1) b → next + subtree_nodes q under m ≤ j + sum_of (subtree_nodes q under) all
-      → next_record + m ≤ r + n → Ready q cs most totals R I' under m next next_record
+      → next_record + m ≤ r + n → Ready q t R I' under m next next_record
   kid i m next next_record same is at rest =
       rw same (child_ready ready i m next next_record (rw (x_is, b_is) at is) (rw all_is at at) rest)
 
@@ -225,15 +225,15 @@ module _ {q : Request} {cs : ℕ} {most totals : List ℕ} {R I depth n j r k b 
     first_left : all ≡ m ∷ from (k + 1) x (b + 1) b 1
     first_left = rw e (from_first k x (b + 1) b)
 
-    pub first_ready : Ready q cs most totals R I under m j r
+    pub first_ready : Ready q t R I under m j r
     unfolding sum_of with_one
     first_ready =
         kid 0 m j r refl e (rw first_left (omega arith)) (let all' = rw first_left at range_all in omega (arith, all'))
 
 -- The loop over the children from child 1 on. It began with the image o₁, when child 0 had returned `large`; before child i the node `next` and
 -- the record `row` are reached, the image from that node on is as it was lent, and the child before it, from child 2 on, has returned `small`.
-pub record KidsLeft (q : Request) (cs : ℕ) (most totals recs o₁ : List ℕ) (depth n j r k b x : ℕ) (large : Child) (o : List ℕ) (small : Child) (next next_record i : ℕ) : Type 0 where
-  pub distributed : Distribution q cs most totals (length recs) (length o₁) depth n j r k b x
+pub record KidsLeft (q : Request) (t : NodeInfo) (recs o₁ : List ℕ) (depth n j r k b x : ℕ) (large : Child) (o : List ℕ) (small : Child) (next next_record i : ℕ) : Type 0 where
+  pub distributed : Split q t (length recs) (length o₁) depth n j r k b x
   pub of_first : ChildOf (depth - 1) (subtree q (depth - 1) (pick (ltb 0 x) (b + 1) b)) large
   pub of_last : 1 < i → ChildOf (depth - 1) (subtree q (depth - 1) (pick (ltb (i - 1) x) (b + 1) b)) small
   pub within : (1 ≤ i) × (i ≤ k + 1)
@@ -252,36 +252,51 @@ some_nodes : {d : ℕ} {t : Tree d} {x : Child} → ChildOf d t x → 0 < x.node
 unfolding nodes
 some_nodes y = omega (arith, y.nodes)
 
-abbrev internal_node_at : ℕ → ℕ → ℕ → Child → Child → ℕ → ℕ → ℕ → ℕ → InternalNode
-internal_node_at k b x large small w t j r =
-    record { kept = k; base = b; extra = x; large = large; small = small; count_size = w; total_size = t; first_node = j; first_record = r }
+abbrev internal_node_at : ℕ → ℕ → ℕ → Child → Child → ChildPointer → ℕ → ℕ → InternalNode
+internal_node_at k b x large small p j r =
+    record {
+      distributed = record { kept = k; base = b; extra = x };
+      large = large;
+      small = small;
+      pointer = p;
+      first = record { nodes = j; records = r };
+    }
 
 -- Before the loop: what is distributed, and the first child.
-module _ {q : Request} {cs : ℕ} {most totals : List ℕ} {R I depth n j r k b x : ℕ}
-    (given : Ready q cs most totals R I depth n j r) (pos : depth ≡ 0 → ⊥) (kept : k ≡ taken (get_or most (depth - 1) 0) n)
-    (base : b ≡ share (get_or most (depth - 1) 0) n) (more : x ≡ extra (get_or most (depth - 1) 0) n) where
-  pub now_distributed : Distribution q cs most totals R I depth n j r k b x
-  now_distributed = record { given = given; pos = pos; kept = kept; base = base; extra = more }
+module _ {q : Request} {t : NodeInfo} {R I depth n j r : ℕ} {x : Distribution}
+    (given : Ready q t R I depth n j r) (pos : depth ≡ 0 → ⊥) (dealt : x ≡ distribution (level_in t (depth - 1)).cum_max_nrec n) where
+  pub now_distributed : Split q t R I depth n j r x.kept x.base x.extra
+  now_distributed =
+      record {
+        given = given;
+        pos = pos;
+        kept = ap (λ (d : Distribution). d.kept) dealt;
+        base = ap (λ (d : Distribution). d.base) dealt;
+        extra = ap (λ (d : Distribution). d.extra) dealt;
+      }
 
-  pub share_few : b < 2 ^ 32
+  pub share_few : x.base < 2 ^ 32
   share_few = base_few now_distributed
 
-  pub first_asked : (m : ℕ) → m ≡ pick (ltb 0 x) (b + 1) b → Ready q cs most totals R I (depth - 1) m j r
+  pub kept_fits : Fits w64 (x.kept + 1)
+  kept_fits = omega (arith, kept_small now_distributed)
+
+  pub first_asked : (m : ℕ) → m ≡ pick (ltb 0 x.extra) (x.base + 1) x.base → Ready q t R I (depth - 1) m j r
   first_asked m e = first_ready now_distributed e
 
 -- A number among those of the subtree's nodes, or the one after them; a record's place among its records, or the one after them.
-module _ {q : Request} {cs : ℕ} {most totals : List ℕ} {R I depth n j r k b x : ℕ} (distributed : Distribution q cs most totals R I depth n j r k b x) where
-  pub node_fits : (y : ℕ) → y ≤ j + subtree_nodes q (suc (depth - 1)) n → Fits w64 y
+module _ {q : Request} {t : NodeInfo} {R I depth n j r k b x : ℕ} (distributed : Split q t R I depth n j r k b x) where
+  pub node_fits : (y : ℕ) → y ≤ j + subtree_nodes q (suc (depth - 1)) n → y < 2 ^ 64
   node_fits y within =
       let node = ready distributed in
-      number_fits q.start j (subtree_nodes q (suc (depth - 1)) n) q.geometry.node_size (node_pos node) node.short y within
+      omega (arith, number_fits q.start j (subtree_nodes q (suc (depth - 1)) n) q.geometry.node_size (node_pos node) node.short y within)
 
-  pub record_fits : (y : ℕ) → y ≤ r + n + 1 → Fits w64 y
+  pub record_fits : (y : ℕ) → y ≤ r + n + 1 → y < 2 ^ 64
   record_fits y within = omega (arith, distributed.given.few)
 
 -- The first child is written, and the loop begins.
-module _ {q : Request} {cs : ℕ} {most totals recs : List ℕ} {depth n j r k b x m : ℕ} {o o₁ : List ℕ} {large : Child}
-    (distributed : Distribution q cs most totals (length recs) (length o) depth n j r k b x) (e : m ≡ pick (ltb 0 x) (b + 1) b)
+module _ {q : Request} {t : NodeInfo} {recs : List ℕ} {depth n j r k b x m : ℕ} {o o₁ : List ℕ} {large : Child}
+    (distributed : Split q t (length recs) (length o) depth n j r k b x) (e : m ≡ pick (ltb 0 x) (b + 1) b)
     (wrote : SubtreeWritten q recs o o₁ (depth - 1) m j r large) where
   large_total : large.total ≡ m
   large_total = wrote.child.total ∙ planned_records (capacities q) (depth - 1) m (first_ready distributed e).thick
@@ -294,16 +309,13 @@ module _ {q : Request} {cs : ℕ} {most totals recs : List ℕ} {depth n j r k b
   pub first_within : (large.total ≤ n) × (b ≤ n)
   first_within = (omega (arith, large_total, records_first), omega (arith, b_is distributed, share_less (ready distributed)))
 
-  pub first_next_fits : Fits w64 (j + large.nodes)
+  pub first_next_fits : j + large.nodes < 2 ^ 64
   unfolding sum_of
   first_next_fits =
       let nodes = rw (first_left distributed e) at (nodes_all distributed) in
       node_fits distributed (j + large.nodes) (omega (arith, wrote.child.nodes, nodes))
 
-  pub first_record_fits : Fits w64 (r + large.total)
-  first_record_fits = record_fits distributed _ (omega (arith, first_within))
-
-  pub first_after_fits : Fits w64 (r + large.total + 1)
+  pub first_after_fits : r + large.total + 1 < 2 ^ 64
   first_after_fits = record_fits distributed _ (omega (arith, first_within))
 
   -- The image from the next node on is as it was lent.
@@ -316,7 +328,7 @@ module _ {q : Request} {cs : ℕ} {most totals recs : List ℕ} {depth n j r k b
       rw wrote.child.nodes (drop_after o o₁ (j * q.geometry.node_size) own wrote.image ends (omega (arith, node.room)))
 
   pub loop_start : (small : Child) → length o₁ ≡ length o
-      → KidsLeft q cs most totals recs o₁ depth n j r k b x large o₁ small (j + large.nodes) (r + large.total + 1) 1
+      → KidsLeft q t recs o₁ depth n j r k b x large o₁ small (j + large.nodes) (r + large.total + 1) 1
   unfolding sum_of
   loop_start small same =
       record {
@@ -331,8 +343,8 @@ module _ {q : Request} {cs : ℕ} {most totals recs : List ℕ} {depth n j r k b
         left = refl;
       }
 
-module _ {q : Request} {cs : ℕ} {most totals recs : List ℕ} {depth n j r k b x : ℕ} {o₁ o : List ℕ} {large small : Child} {next next_record i : ℕ}
-    (inv : KidsLeft q cs most totals recs o₁ depth n j r k b x large o small next next_record i) where
+module _ {q : Request} {t : NodeInfo} {recs : List ℕ} {depth n j r k b x : ℕ} {o₁ o : List ℕ} {large small : Child} {next next_record i : ℕ}
+    (inv : KidsLeft q t recs o₁ depth n j r k b x large o small next next_record i) where
   abbrev d : ℕ
   d = depth - 1
 
@@ -340,7 +352,7 @@ module _ {q : Request} {cs : ℕ} {most totals recs : List ℕ} {depth n j r k b
   rest = from (k + 1) x (b + 1) b
 
   -- A turn: child i, and the numbers and the image after it.
-  module _ (h : i ≤ k) {m : ℕ} (e : m ≡ pick (ltb i x) (b + 1) b) where
+  module _ (h : i < k + 1) {m : ℕ} (e : m ≡ pick (ltb i x) (b + 1) b) where
     kid_left : rest i ≡ m ∷ rest (i + 1)
     kid_left = rw e (from_step (k + 1) x (b + 1) b i (omega arith))
 
@@ -352,10 +364,7 @@ module _ {q : Request} {cs : ℕ} {most totals recs : List ℕ} {depth n j r k b
     unfolding with_one
     kid_records = let q = rw kid_left at inv.in_list in omega (arith, q)
 
-    pub turn_fits : Fits w64 (i + 1)
-    turn_fits = omega (arith, kept_small inv.distributed)
-
-    pub kid_ready : Ready q cs most totals (length recs) (length o) d m next next_record
+    pub kid_ready : Ready q t (length recs) (length o) d m next next_record
     kid_ready = kid inv.distributed i m next next_record inv.long e (omega (arith, kid_nodes)) (omega (arith, kid_records))
 
     module _ {o' : List ℕ} {z : Child} (wrote : SubtreeWritten q recs o o' d m next next_record z) where
@@ -368,16 +377,13 @@ module _ {q : Request} {cs : ℕ} {most totals recs : List ℕ} {depth n j r k b
       pub kid_next : next + z.nodes ≤ j + subtree_nodes q (suc d) n
       kid_next = omega (arith, wrote.child.nodes, kid_nodes, nodes_all inv.distributed)
 
-      pub kid_next_fits : Fits w64 (next + z.nodes)
+      pub kid_next_fits : next + z.nodes < 2 ^ 64
       kid_next_fits = node_fits inv.distributed _ kid_next
 
-      pub kid_record_fits : Fits w64 (next_record + z.total)
-      kid_record_fits = record_fits inv.distributed _ (omega (arith, kid_record))
-
-      pub kid_after_fits : Fits w64 (next_record + z.total + 1)
+      pub kid_after_fits : next_record + z.total + 1 < 2 ^ 64
       kid_after_fits = record_fits inv.distributed _ kid_record
 
-      pub loop_turn : KidsLeft q cs most totals recs o₁ depth n j r k b x large o' z (next + z.nodes) (next_record + z.total + 1) (i + 1)
+      pub loop_turn : KidsLeft q t recs o₁ depth n j r k b x large o' z (next + z.nodes) (next_record + z.total + 1) (i + 1)
       unfolding images
       loop_turn =
           let long = length_subtree recs kid_ready in
@@ -403,7 +409,7 @@ module _ {q : Request} {cs : ℕ} {most totals recs : List ℕ} {depth n j r k b
           }
 
   -- The root, once the last child is written.
-  module _ (past : k < i) where
+  module _ (past : k + 1 ≤ i) where
     last_is : i ≡ k + 1
     last_is = omega (arith, inv.within)
 
@@ -424,51 +430,20 @@ module _ {q : Request} {cs : ℕ} {most totals recs : List ℕ} {depth n j r k b
     pub next_is : next + 1 ≡ j + subtree_nodes q (suc d) n
     next_is = omega (arith, nodes_all inv.distributed, nodes_done)
 
+    pub next_fits : Fits w64 (next + 1)
+    next_fits = omega (arith, node_fits inv.distributed (next + 1) (omega (arith, next_is)))
+
     pub next_least : j ≤ next
     next_least = omega (arith, nodes_done)
-
-    abbrev internal : InternalNode
-    internal = internal_node_at k b x large small cs (get_or totals d 0) j r
-
-    numbers : Numbers q recs d n (thick (ready inv.distributed)) internal
-    numbers =
-        let before : i - 1 ≡ k = omega (arith, last_is) in
-        let last = rw (before, le-ltb k x (extra_few inv.distributed), b_is inv.distributed) at last_returned in
-        record {
-          kept = k_is inv.distributed;
-          base = b_is inv.distributed;
-          extra = x_is inv.distributed;
-          large = λ p. child_is (rw (lt-ltb 0 x p, b_is inv.distributed) at inv.of_first);
-          small = child_is last;
-          counts = (ready inv.distributed).counts;
-          total = width_is inv.distributed;
-        }
-
-    pub root_fits : InternalNodeFits q (length recs) internal
-    unfolding count
-    root_fits =
-        let node = ready inv.distributed in
-        let bytes = rw (plan_count (capacities q) d n) at node.fits.0.node in
-        let within : r + with_one (child_shares internal) ≤ r + n = omega (arith, records_within q recs d n (thick node) internal numbers) in
-        let ends : j + nodes_of_all (children_of internal) ≤ j + subtree_nodes q (suc d) n =
-        omega (arith, nodes_are q recs d n (thick node) internal numbers, nodes_below node) in
-        record {
-          size = node.size;
-          few = (omega (arith, kept_small inv.distributed), base_few inv.distributed);
-          bytes = rw (node.counts, width_is inv.distributed, k_is inv.distributed) (omega (arith, bytes));
-          in_list = le_trans (mul-le-mul_right q.geometry.record_size within) node.in_list;
-          some = (some_nodes inv.of_first, some_nodes last_returned);
-          short = omega (arith, mul-le-mul_right q.geometry.node_size ends, node.short);
-        }
 
     pub root_room : (next + 1) * q.geometry.node_size ≤ length o
     root_room = rw (next_is, inv.long) (ready inv.distributed).room
 
+    whole : List ℕ
+    whole = images q recs d (two_sizes (k + 1) x (b + 1) b) j r
+
     -- The children's images, one after another, in the image that the node's writing began with.
     module _ {o₀ : List ℕ} {m : ℕ} (e : m ≡ pick (ltb 0 x) (b + 1) b) (same : length o₁ ≡ length o₀) (first : SubtreeWritten q recs o₀ o₁ d m j r large) where
-      whole : List ℕ
-      whole = images q recs d (two_sizes (k + 1) x (b + 1) b) j r
-
       place : next * q.geometry.node_size ≡ j * q.geometry.node_size + length whole
       unfolding whole
       place =
@@ -494,24 +469,60 @@ module _ {q : Request} {cs : ℕ} {most totals recs : List ℕ} {depth n j r k b
       root_lent =
           drop_after o₀ o (j * q.geometry.node_size) whole children_done place (omega (arith, (ready inv.distributed).room, same))
 
+    -- The root, with pointers as the table says.
+    module _ (p : ChildPointer) (by_table : p ≡ pointer_in t q.geometry.offset_size d) where
+      abbrev internal : InternalNode
+      internal = internal_node_at k b x large small p j r
+
+      numbers : Numbers q recs d n (thick (ready inv.distributed)) internal
+      numbers =
+          let before : i - 1 ≡ k = omega (arith, last_is) in
+          let last = rw (before, le-ltb k x (extra_few inv.distributed), b_is inv.distributed) at last_returned in
+          record {
+            kept = k_is inv.distributed;
+            base = b_is inv.distributed;
+            extra = x_is inv.distributed;
+            large = λ h. child_is (rw (lt-ltb 0 x h, b_is inv.distributed) at inv.of_first);
+            small = child_is last;
+            pointer = by_table ∙ pointer_is inv.distributed;
+          }
+
+      pub root_fits : InternalNodeFits q (length recs) internal
+      unfolding count
+      root_fits =
+          let node = ready inv.distributed in
+          let bytes = rw (plan_count (capacities q) d n) at node.fits.0.node in
+          let within : r + with_one (child_shares internal) ≤ r + n = omega (arith, records_within q recs d n (thick node) internal numbers) in
+          let ends : j + nodes_of_all (children_of internal) ≤ j + subtree_nodes q (suc d) n =
+          omega (arith, nodes_are q recs d n (thick node) internal numbers, nodes_below node) in
+          record {
+            size = node.size;
+            few = base_few inv.distributed;
+            bytes = let is : p ≡ child_pointer q d = by_table ∙ pointer_is inv.distributed in rw (is, k_is inv.distributed) (omega (arith, bytes));
+            in_list = le_trans (mul-le-mul_right q.geometry.record_size within) node.in_list;
+            some = (some_nodes inv.of_first, some_nodes last_returned);
+            short = omega (arith, mul-le-mul_right q.geometry.node_size ends, node.short);
+          }
+
       image_all : subtree_image q recs (suc d) n j r ≡ whole ++ joined (internal_node_fields q recs internal)
       unfolding whole
       image_all = rw (all_is inv.distributed) (image_is q recs d n (thick (ready inv.distributed)) internal numbers)
 
-      pub root_done : {z : List ℕ} {budget : ℕ} → 2 ^ 32 ≤ budget → z ≡ stored o (next * q.geometry.node_size) (joined (take budget (internal_node_fields q recs internal)))
-          → SubtreeWritten q recs o₀ z depth n j r (record { records = k; total = next_record - r - 1; nodes = next + 1 - j })
-      root_done {z} {budget} many written =
+      pub root_done : {o₀ : List ℕ} {m : ℕ} → m ≡ pick (ltb 0 x) (b + 1) b → length o₁ ≡ length o₀ → SubtreeWritten q recs o₀ o₁ d m j r large
+          → {z : List ℕ} {budget : ℕ} → 2 ^ 32 ≤ budget → z ≡ stored o (next * q.geometry.node_size) (joined (take budget (internal_node_fields q recs internal)))
+          → SubtreeWritten q recs o₀ z depth n j r (record { records = k; total = n; nodes = next + 1 - j })
+      root_done {o₀} {m} e same first {z} {budget} many written =
           let node = ready inv.distributed in
           let own = joined (internal_node_fields q recs internal) in
-          let all = take_all budget (internal_node_fields q recs internal) (le_trans (internal_few q recs internal root_fits (kept_small inv.distributed)) many) in
+          let all = take_all budget (internal_node_fields q recs internal) (le_trans (internal_few recs root_fits (kept_small inv.distributed)) many) in
           let room : j * q.geometry.node_size ≤ length o₀ = omega (arith, node.room, same) in
-          subst (λ (u : ℕ). SubtreeWritten q recs o₀ z u n j r (record { records = k; total = next_record - r - 1; nodes = next + 1 - j })) (sym (deeper inv.distributed))
+          subst (λ (u : ℕ). SubtreeWritten q recs o₀ z u n j r (record { records = k; total = n; nodes = next + 1 - j })) (sym (deeper inv.distributed))
           (record {
-            image = rw (written, all, children_done, stored_turn o₀ _ _ whole own room place, image_all);
+            image = rw (written, all, children_done e same first, stored_turn o₀ _ _ whole own room (place e same first), image_all);
             child =
                 record {
                   records = k_is inv.distributed ∙ sym (plan_count (capacities q) d n);
-                  total = omega (arith, record_is, plan_size (capacities q) (suc d) n (thick node));
+                  total = sym (plan_size (capacities q) (suc d) n (thick node));
                   nodes = omega (arith, next_is);
                 };
           })

@@ -1,9 +1,9 @@
 -- The writing call: what it answers and leaves, in the terms of the format's definitions.
-use Rattle.std.specs.Prelude.{◌≡◌, List, [], ◌∷◌, ℕ}
+use Rattle.std.specs.Prelude.{◌≡◌, List, ℕ}
 use Rattle.refusal.specs.Answer.{Answer, accepted}
-use Rattle.node_info.specs.declared.NodeInfo.{NodeInfo}
 use Rattle.node_info.specs.Table.{info_at}
-use Rattle.plan.specs.declared.BTreeV2Plan.{BTreeV2Plan}
+use Rattle.plan.specs.declared.PlanAndTable.{PlanAndTable}
+use Rattle.plan.specs.Planned.{plan_numbers}
 use Rattle.format.specs.declared.Request.{Request}
 use Rattle.format.specs.Request.{depth_of}
 use Rattle.write_checks.specs.Writing.{written, header_exit, image_exit}
@@ -20,6 +20,6 @@ pub record Outputs (q : Request) (recs header image header_last image_last : Lis
   pub image_left : image_last ≡ image_exit q recs header image
 
 -- An accepted write: its plan's figures and table.
-pub record Accepted (q : Request) (p : BTreeV2Plan) (info : NodeInfo) (recs header image : List ℕ) : Type 0 where
-  pub figures : written q recs header image ≡ accepted (p.depth ∷ p.nodes ∷ p.leaves ∷ p.image_size ∷ [])
-  pub table : info ≡ info_at q.geometry (depth_of q)
+pub record Accepted (q : Request) (planned : PlanAndTable) (recs header image : List ℕ) : Type 0 where
+  pub figures : written q recs header image ≡ accepted (plan_numbers planned.plan)
+  pub table : planned.info ≡ info_at q.geometry (depth_of q)

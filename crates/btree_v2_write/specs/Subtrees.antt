@@ -1,13 +1,16 @@
 -- The subtrees of a planned tree, as the function that writes one goes by them.
-use Rattle.std.specs.Prelude.{◌≡◌, false, List, ℕ, ◌+◌, ◌*◌, ◌^◌, ◌≤◌, ◌<◌, get_or}
+use Rattle.std.specs.Prelude.{◌≡◌, false, List, ℕ, ◌+◌, ◌*◌, ◌^◌, ◌≤◌, ◌<◌}
 use Rattle.numbers.specs.Places.{stored}
-use Rattle.node_info.specs.Capacity.{subtree_capacity, count_width, total_width}
+use Rattle.node_info.specs.declared.NodeInfo.{NodeInfo}
+use Rattle.node_info.specs.Table.{info_at}
+use Rattle.node_info.specs.Capacity.{subtree_capacity}
 use Rattle.plan.specs.Tree.{Tree, count, size, nodes, Everywhere}
 use Rattle.plan.specs.Planned.{plan_tree, thin}
 use Rattle.format.specs.Bytes.{image}
 use Rattle.format.specs.Fit.{Fit}
 use Rattle.format.specs.declared.Request.{Request}
 use Rattle.btree_v2_write.specs.declared.node.Child.{Child}
+use Rattle.btree_v2_write.specs.declared.node.Place.{Place}
 
 -- What subtrees of each level hold.
 abbrev pub capacities : Request → ℕ → ℕ
@@ -23,20 +26,24 @@ subtree_nodes q d n = nodes d (subtree q d n)
 unfoldable pub subtree_image : Request → List ℕ → ℕ → ℕ → ℕ → ℕ → List ℕ
 subtree_image q recs d n j r = image q recs d (subtree q d n) j r
 
--- A subtree that can be written: the table's entries are those of its levels, its records are among 2^24, it is a leaf or not too thin, its
+-- A subtree that can be written: the table reaches its depth, its records are among 2^24, it is a leaf or not too thin, its
 -- nodes fit, its records are in the list, its nodes in the image, and its addresses below 2^64.
-pub record Ready (q : Request) (count_size : ℕ) (most totals : List ℕ) (records image d n j r : ℕ) : Type 0 where
-  pub low : d ≤ 32
+pub record Ready (q : Request) (t : NodeInfo) (records image d n j r : ℕ) : Type 0 where
+  pub top : ℕ
+  pub table : t ≡ info_at q.geometry top
+  pub limit : top ≤ 32
+  pub low : d ≤ top
   pub size : 0 < q.geometry.record_size
-  pub counts : count_size ≡ count_width q.geometry
-  pub caps : (u : ℕ) → u < d → get_or most u 0 ≡ capacities q u
-  pub widths : (u : ℕ) → u < d → get_or totals u 0 ≡ total_width q.geometry u
   pub few : r + n < 2 ^ 24
   pub thick : 1 ≤ d → thin (capacities q) d n ≡ false
   pub fits : Everywhere (Fit q.geometry) d (subtree q d n)
   pub in_list : (r + n) * q.geometry.record_size ≤ records
   pub room : (j + subtree_nodes q d n) * q.geometry.node_size ≤ image
   pub short : q.start + (j + subtree_nodes q d n) * q.geometry.node_size < 2 ^ 64
+
+-- The place after a subtree that was written at p, and the record that follows it.
+abbrev pub after : Place → Child → Place
+after p x = record { nodes = p.nodes + x.nodes; records = p.records + x.total + 1 }
 
 -- A tree in numbers, as its writing returns it: the root's records, all records, and the nodes.
 pub record ChildOf (d : ℕ) (t : Tree d) (x : Child) : Type 0 where

@@ -4,43 +4,28 @@
 ghost use Rattle.std.specs.Prelude.{◌≡◌, ◌+◌, ◌*◌, ◌^◌, ◌≤◌, ◌<◌, length, take, ltb};
 ghost use Rattle.numbers.specs.Numbers.{pick};
 ghost use Rattle.numbers.specs.Places.{stored, joined, filled_to};
-ghost use Rattle.format.specs.Bytes.{prefix_size};
 ghost use Rattle.format.specs.Fields.{leaf_fields};
 ghost use Rattle.btree_v2_write.specs.Filled.{Filled};
-ghost use Rattle.btree_v2_write.specs.Shares.{two_sizes, with_one, records_after, pointer_to, pointers_to, children_of, PointerFits, PointersFit, InternalNodeFits, content_fields, internal_node_fields};
+ghost use Rattle.btree_v2_write.specs.Shares.{child_shares, with_one, records_after, pointer_to, pointers_to, children_of, PointerFits, PointersFit, InternalNodeFits, internal_node_fields};
 
-use crate::filling;
-use crate::filling::Progress;
+use crate::filling::Filling;
 use format::Request;
+use node_info::{ChildPointer, NodeInfo};
+use plan::Distribution;
 
-// Fills a leaf of n records, the first of them record r: its first `budget` fields.
-fn fill_leaf(node: &mut [u8], request: Request, records: &[u8], n: usize, r: usize, budget: usize)
-    requires { (request.geometry.node_size ≤ length node.old) × (10 + n * request.geometry.record_size ≤ request.geometry.node_size) × ((r + n) * request.geometry.record_size ≤ length records.now) }
-    ensures { node.new ≡ filled_to budget (leaf_fields request records.now n r) node.old }
-{
-    let geometry = request.geometry;
-    let front = filling::put_front(node, b'L', b'F', request.tree_type, budget);
-    let end = filling::put_records(node, front, records, geometry.record_size as usize, n, r);
-    filling::put_end(node, end, geometry.node_size as usize);
+// What all nodes of a tree share: the numbers of the write, the list of its records, and the table of its depth.
+#[derive(Clone, Copy)]
+pub(crate) struct Writing<'a> {
+    pub(crate) request: Request,
+    pub(crate) records: &'a [u8],
+    pub(crate) info: &'a NodeInfo,
 }
 
-// Writes a leaf as node j of the image: its first `budget` fields.
-pub(crate) fn write_leaf(
-    image: &mut [u8],
-    request: Request,
-    records: &[u8],
-    n: usize,
-    r: usize,
-    j: usize,
-    budget: usize,
-)
-    requires { ((j + 1) * request.geometry.node_size ≤ length image.old) × (10 + n * request.geometry.record_size ≤ request.geometry.node_size)
-        × ((r + n) * request.geometry.record_size ≤ length records.now) }
-    ensures { image.new ≡ stored image.old (j * request.geometry.node_size) (joined (take budget (leaf_fields request records.now n r))) }
-{
-    let geometry = request.geometry;
-    let at = j * (geometry.node_size as usize);
-    fill_leaf(&mut image[at..], request, records, n, r, budget);
+// A place in a writing: the nodes and the records before it, which are the numbers of the next node and record.
+#[derive(Clone, Copy)]
+pub(crate) struct Place {
+    pub(crate) nodes: usize,
+    pub(crate) records: usize,
 }
 
 // A child in numbers, as its writing returns it: its root's records, all its records, and its nodes.
@@ -51,180 +36,135 @@ pub(crate) struct Child {
     pub(crate) nodes: usize,
 }
 
-// What child i gets where each gets `base` records and the first `extra` one more.
-pub(crate) fn share(base: usize, extra: usize, i: usize) -> usize
-    requires { base < 2 ^ 32 }
-    ensures { result ≡ pick (ltb i extra) (base + 1) base }
-{
-    if i < extra { base + 1 } else { base }
-}
-
-// Puts the node's own records, `kept` of them, as the next fields, those that may still be put. The records below the node begin with record r;
-// a child has `base` records, the first `extra` one more.
-fn put_own_records(
-    node: &mut [u8],
-    from: Progress,
-    record_size: usize,
-    records: &[u8],
-    kept: usize,
-    base: usize,
-    extra: usize,
-    r: usize,
-) -> Progress
-    requires { (base < 2 ^ 32) × (from.at + kept * record_size ≤ length node.old) × ((r + with_one (two_sizes kept extra (base + 1) base)) * record_size ≤ length records.now) × (0 < record_size) }
-    ensures { Filled node.old node.new from (records_after record_size records.now (two_sizes kept extra (base + 1) base) r) result }
-{
-    let mut reached = from;
-    let mut next_record = r;
-    let mut i = 0;
-    while i < kept {
-        let after = next_record + share(base, extra, i);
-        reached = filling::put_records(node, reached, records, record_size, 1, after);
-        next_record = after + 1;
-        i += 1;
-    }
-    reached
-}
-
-// The address of node j.
-pub(crate) fn node_address(request: Request, j: usize) -> u64
-    requires { request.start + j * request.geometry.node_size < 2 ^ 64 }
-    ensures { result ≡ request.start + j * request.geometry.node_size }
-{
-    let geometry = request.geometry;
-    request.start + ((j * (geometry.node_size as usize)) as u64)
-}
-
-// The child at i: `large` for the first `extra`, else `small`.
-fn one_of(extra: usize, large: Child, small: Child, i: usize) -> Child
-    ensures { result ≡ pick (ltb i extra) large small }
-{
-    if i < extra { large } else { small }
-}
-
-// An internal node in numbers: it keeps `kept` records; its `kept` + 1 children have `base` records, the first `extra` of them one more; the
-// first nodes and records below it are node `first_node` and record `first_record`; in a pointer, record counts have `count_size` bytes and
-// totals `total_size`.
+// An internal node in numbers: its records and those of its children; a child of the larger share and one of the smaller; the bytes of a pointer's
+// fields; and the place of the first node and record below it.
 #[derive(Clone, Copy)]
 pub(crate) struct InternalNode {
-    pub(crate) kept: usize,
-    pub(crate) base: usize,
-    pub(crate) extra: usize,
+    pub(crate) distributed: Distribution,
     pub(crate) large: Child,
     pub(crate) small: Child,
-    pub(crate) count_size: usize,
-    pub(crate) total_size: usize,
-    pub(crate) first_node: usize,
-    pub(crate) first_record: usize,
+    pub(crate) pointer: ChildPointer,
+    pub(crate) first: Place,
 }
 
-// Puts address, record count and total of the pointer to a child as the next fields, those that may still be put; the child's first node is node
-// j, and the two counts have these sizes.
-fn put_pointer(
-    node: &mut [u8],
-    request: Request,
-    from: Progress,
-    child: Child,
-    count_size: usize,
-    total_size: usize,
-    j: usize,
-) -> Progress
-    requires { PointerFits request (length node.old) from.at child count_size total_size j }
-    ensures { Filled node.old node.new from (pointer_to request count_size total_size child j) result }
+// Of child i: `larger` of the first `extra` children, `smaller` of the others.
+pub(crate) fn of_child<T: Copy>(distributed: &Distribution, i: u64, larger: T, smaller: T) -> T
+    ensures { result ≡ pick (ltb i distributed.now.extra) larger smaller }
 {
-    let geometry = request.geometry;
-    let address = node_address(request, j + (child.nodes - 1));
-    let addressed = filling::put_number(node, from, address, geometry.offset_size as usize);
-    let counted = filling::put_number(node, addressed, child.records, count_size);
-    filling::put_number(node, counted, child.total, total_size)
-}
-
-// Puts the pointers to a node's children as the next fields, those that may still be put.
-fn put_pointers(
-    node: &mut [u8],
-    request: Request,
-    from: Progress,
-    internal: InternalNode,
-) -> Progress
-    requires { PointersFit request (length node.old) from.at internal }
-    ensures { Filled node.old node.new from (pointers_to request internal.count_size internal.total_size (children_of internal) internal.first_node) result }
-{
-    let kept = internal.kept;
-    let extra = internal.extra;
-    let large = internal.large;
-    let small = internal.small;
-    let count_size = internal.count_size;
-    let total_size = internal.total_size;
-    let mut reached = from;
-    let mut next = internal.first_node;
-    let mut i = 0;
-    while i <= kept {
-        let child = one_of(extra, large, small, i);
-        reached = put_pointer(node, request, reached, child, count_size, total_size, next);
-        next += child.nodes;
-        i += 1;
+    if i < distributed.extra {
+        larger
+    } else {
+        smaller
     }
-    reached
 }
 
-// Puts what comes after a node's front, its own records and the pointers to its children, those fields that may still be put.
-fn put_contents(
-    node: &mut [u8],
-    request: Request,
-    records: &[u8],
-    front: Progress,
-    internal: InternalNode,
-) -> Progress
-    requires fact_1 { InternalNodeFits request (length records.now) internal }
-    requires fact_2 { (request.geometry.node_size ≤ length node.old) × (front.at ≡ prefix_size) }
-    ensures { Filled node.old node.new front (content_fields request records.now internal) result }
+// The records of child i.
+pub(crate) fn share(distributed: &Distribution, i: u64) -> u64
+    requires { distributed.now.base < 2 ^ 32 }
+    ensures { result ≡ pick (ltb i distributed.now.extra) (distributed.now.base + 1) distributed.now.base }
 {
-    let geometry = request.geometry;
-    let own = put_own_records(
-        node,
-        front,
-        geometry.record_size as usize,
-        records,
-        internal.kept,
-        internal.base,
-        internal.extra,
-        internal.first_record,
-    );
-    put_pointers(node, request, own, internal)
+    of_child(distributed, i, distributed.base + 1, distributed.base)
 }
 
-// Fills an internal node: its first `budget` fields.
-fn fill_internal(
-    node: &mut [u8],
-    request: Request,
-    records: &[u8],
-    internal: InternalNode,
-    budget: usize,
-)
-    requires fact_1 { InternalNodeFits request (length records.now) internal }
-    requires fact_2 { request.geometry.node_size ≤ length node.old }
-    ensures { node.new ≡ filled_to budget (internal_node_fields request records.now internal) node.old }
-{
-    let geometry = request.geometry;
-    let front = filling::put_front(node, b'I', b'N', request.tree_type, budget);
-    let end = put_contents(node, request, records, front, internal);
-    filling::put_end(node, end, geometry.node_size as usize);
-}
+impl Writing<'_> {
+    // Fills a leaf of n records, the first of them record r: its first `budget` fields.
+    fn fill_leaf(&self, node: &mut [u8], n: usize, r: usize, budget: usize)
+        requires { (self.now.request.geometry.node_size ≤ length node.old) × (10 + n * self.now.request.geometry.record_size ≤ self.now.request.geometry.node_size)
+            × ((r + n) * self.now.request.geometry.record_size ≤ length self.now.records.now) }
+        ensures { node.new ≡ filled_to budget (leaf_fields self.now.request self.now.records.now n r) node.old }
+    {
+        let geometry = self.request.geometry;
+        let mut filling = Filling::begin(node, b"BTLF", self.request.tree_type, budget);
+        filling.put_records(self.records, geometry.record_size as usize, n, r);
+        filling.finish(geometry.node_size as usize);
+    }
 
-// Writes an internal node as node j of the image: its first `budget` fields.
-pub(crate) fn write_internal(
-    image: &mut [u8],
-    request: Request,
-    records: &[u8],
-    internal: InternalNode,
-    j: usize,
-    budget: usize,
-)
-    requires fact_1 { InternalNodeFits request (length records.now) internal }
-    requires fact_2 { (j + 1) * request.geometry.node_size ≤ length image.old }
-    ensures { image.new ≡ stored image.old (j * request.geometry.node_size) (joined (take budget (internal_node_fields request records.now internal))) }
-{
-    let geometry = request.geometry;
-    let at = j * (geometry.node_size as usize);
-    fill_internal(&mut image[at..], request, records, internal, budget);
+    // Writes a leaf of n records as the next node: its first `budget` fields.
+    #[tactic(auto, using(crate::proofs::Nodes::node_placed))]
+    pub(crate) fn write_leaf(&self, image: &mut [u8], n: usize, at: Place, budget: usize)
+        requires { ((at.nodes + 1) * self.now.request.geometry.node_size ≤ length image.old) × (10 + n * self.now.request.geometry.record_size ≤ self.now.request.geometry.node_size)
+            × ((at.records + n) * self.now.request.geometry.record_size ≤ length self.now.records.now) }
+        ensures { image.new ≡ stored image.old (at.nodes * self.now.request.geometry.node_size) (joined (take budget (leaf_fields self.now.request self.now.records.now n at.records))) }
+    {
+        let from = at.nodes * (self.request.geometry.node_size as usize);
+        self.fill_leaf(&mut image[from..], n, at.records, budget);
+    }
+
+    // Puts the node's own records as the next fields, those that may still be put.
+    fn put_own_records(&self, filling: &mut Filling<'_>, internal: &InternalNode)
+        requires { (internal.now.distributed.base < 2 ^ 32) × (0 < self.now.request.geometry.record_size)
+            × (filling.old.at + internal.now.distributed.kept * self.now.request.geometry.record_size ≤ length filling.old.node.now)
+            × ((internal.now.first.records + with_one (child_shares internal.now)) * self.now.request.geometry.record_size ≤ length self.now.records.now) }
+        ensures { Filled filling.old (records_after self.now.request.geometry.record_size self.now.records.now (child_shares internal.now) internal.now.first.records) filling.new }
+    {
+        let record_size = self.request.geometry.record_size as usize;
+        let mut next = internal.first.records;
+        for i in 0..internal.distributed.kept {
+            next += share(&internal.distributed, i) as usize;
+            filling.put_records(self.records, record_size, 1, next);
+            next += 1;
+        }
+    }
+
+    // The address of node j.
+    pub(crate) fn node_address(&self, j: usize) -> u64
+        requires { self.now.request.start + j * self.now.request.geometry.node_size < 2 ^ 64 }
+        ensures { result ≡ self.now.request.start + j * self.now.request.geometry.node_size }
+    {
+        self.request.start + (j as u64) * (self.request.geometry.node_size as u64)
+    }
+
+    // Puts address, record count and total of the pointer to a child as the next fields, those that may still be put; the child's first node is
+    // node j.
+    fn put_pointer(&self, filling: &mut Filling<'_>, child: Child, pointer: ChildPointer, j: usize)
+        requires { PointerFits self.now.request (length filling.old.node.now) filling.old.at child pointer j }
+        ensures { Filled filling.old (pointer_to self.now.request pointer child j) filling.new }
+    {
+        let address = self.node_address(j + (child.nodes - 1));
+        filling.put_number(address, pointer.offset_size as usize);
+        filling.put_number(child.records, pointer.count_size as usize);
+        filling.put_number(child.total, pointer.total_size as usize);
+    }
+
+    // Puts the pointers to a node's children as the next fields, those that may still be put.
+    fn put_pointers(&self, filling: &mut Filling<'_>, internal: &InternalNode)
+        requires { PointersFit self.now.request (length filling.old.node.now) filling.old.at internal.now }
+        ensures { Filled filling.old (pointers_to self.now.request internal.now.pointer (children_of internal.now) internal.now.first.nodes) filling.new }
+    {
+        let mut next = internal.first.nodes;
+        for i in 0..=internal.distributed.kept {
+            let child = of_child(&internal.distributed, i, internal.large, internal.small);
+            self.put_pointer(filling, child, internal.pointer, next);
+            next += child.nodes;
+        }
+    }
+
+    // Fills an internal node: its first `budget` fields.
+    fn fill_internal(&self, node: &mut [u8], internal: &InternalNode, budget: usize)
+        requires numbers { InternalNodeFits self.now.request (length self.now.records.now) internal.now }
+        requires room { self.now.request.geometry.node_size ≤ length node.old }
+        ensures { node.new ≡ filled_to budget (internal_node_fields self.now.request self.now.records.now internal.now) node.old }
+    {
+        let mut filling = Filling::begin(node, b"BTIN", self.request.tree_type, budget);
+        self.put_own_records(&mut filling, internal);
+        self.put_pointers(&mut filling, internal);
+        filling.finish(self.request.geometry.node_size as usize);
+    }
+
+    // Writes an internal node as node j of the image: its first `budget` fields.
+    #[tactic(auto, using(crate::proofs::Nodes::node_placed))]
+    pub(crate) fn write_internal(
+        &self,
+        image: &mut [u8],
+        internal: &InternalNode,
+        j: usize,
+        budget: usize,
+    )
+        requires numbers { InternalNodeFits self.now.request (length self.now.records.now) internal.now }
+        requires room { (j + 1) * self.now.request.geometry.node_size ≤ length image.old }
+        ensures { image.new ≡ stored image.old (j * self.now.request.geometry.node_size) (joined (take budget (internal_node_fields self.now.request self.now.records.now internal.now))) }
+    {
+        let from = j * (self.request.geometry.node_size as usize);
+        self.fill_internal(&mut image[from..], internal, budget);
+    }
 }

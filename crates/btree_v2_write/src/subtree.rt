@@ -1,125 +1,63 @@
 // Writing subtrees, node after node: the children of a node first, and then the node.
 
-ghost use Rattle.std.specs.Prelude.{length};
-ghost use Rattle.btree_v2_write.specs.Subtrees.{Ready, SubtreeWritten};
+ghost use Rattle.std.specs.Prelude.{◌≡◌, ◌+◌, ◌^◌, ◌<◌, length};
+ghost use Rattle.btree_v2_write.specs.Subtrees.{after, Ready, SubtreeWritten};
 
-use crate::node::{Child, InternalNode};
+use crate::node::{Child, InternalNode, Place, Writing};
 use crate::{filling, node};
-use format::Request;
 
-// Writes the nodes of a subtree of n records, the first node being node j and the first record record r, and gives the subtree in numbers. The
-// children go first, one after another, and then the root, whose pointers are made of what the children's calls returned: the first child is
-// one of the larger size, where there is one, and the last one of the smaller. The record and the node reached go on by what each returned.
-fn write_subtree(
-    image: &mut [u8],
-    request: Request,
-    records: &[u8],
-    depth: usize,
-    n: usize,
-    j: usize,
-    r: usize,
-    count_size: usize,
-    most: &[u64; 33],
-    total_sizes: &[u8; 33],
-) -> Child
-    requires { Ready request count_size most.now total_sizes.now (length records.now) (length image.old) depth n j r }
-    ensures { SubtreeWritten request records.now image.old image.new depth n j r result }
-{
-    if depth == 0 {
-        node::write_leaf(image, request, records, n, r, j, filling::whole());
-        return Child {
-            records: n as u64,
-            total: n as u64,
-            nodes: 1,
-        };
-    }
-    let under = depth - 1;
-    let distributed = plan::distribute(most[under], n as u64);
-    let kept = distributed.kept as usize;
-    let base = distributed.base as usize;
-    let extra = distributed.extra as usize;
-    let first = node::share(base, extra, 0);
-    let large = write_subtree(
-        image,
-        request,
-        records,
-        under,
-        first,
-        j,
-        r,
-        count_size,
-        most,
-        total_sizes,
-    );
-    let mut small = Child {
-        records: 0,
-        total: 0,
-        nodes: 0,
-    };
-    let mut next = j + large.nodes;
-    let mut next_record = r + (large.total as usize) + 1;
-    let mut i = 1;
-    while i <= kept {
-        let m = node::share(base, extra, i);
-        small = write_subtree(
-            image,
-            request,
-            records,
-            under,
-            m,
-            next,
-            next_record,
-            count_size,
-            most,
-            total_sizes,
-        );
-        next += small.nodes;
-        next_record = next_record + (small.total as usize) + 1;
-        i += 1;
-    }
-    let internal = InternalNode {
-        kept,
-        base,
-        extra,
-        large,
-        small,
-        count_size,
-        total_size: total_sizes[under] as usize,
-        first_node: j,
-        first_record: r,
-    };
-    node::write_internal(image, request, records, internal, next, filling::whole());
-    Child {
-        records: distributed.kept,
-        total: (next_record - r - 1) as u64,
-        nodes: next + 1 - j,
+impl Place {
+    // The place after a subtree that was written here, and the record that follows it.
+    fn after(self, child: &Child) -> Place
+        requires { (self.nodes + child.now.nodes < 2 ^ 64) × (self.records + child.now.total + 1 < 2 ^ 64) }
+        ensures { result ≡ after self child.now }
+    {
+        Place {
+            nodes: self.nodes + child.nodes,
+            records: self.records + (child.total as usize) + 1,
+        }
     }
 }
 
-// Writes all nodes of the tree, and gives the tree in numbers.
-pub(crate) fn write_image(
-    image: &mut [u8],
-    request: Request,
-    records: &[u8],
-    depth: usize,
-    n: usize,
-    count_size: usize,
-    most: &[u64; 33],
-    total_sizes: &[u8; 33],
-) -> Child
-    requires { Ready request count_size most.now total_sizes.now (length records.now) (length image.old) depth n 0 0 }
-    ensures { SubtreeWritten request records.now image.old image.new depth n 0 0 result }
-{
-    write_subtree(
-        image,
-        request,
-        records,
-        depth,
-        n,
-        0,
-        0,
-        count_size,
-        most,
-        total_sizes,
-    )
+impl Writing<'_> {
+    // Writes the nodes of a subtree of n records from this place on, and gives the subtree in numbers. The children go first, one after another,
+    // and then the root, whose pointers are made of what the children's calls returned: the first child is one of the larger size, where there
+    // is one, and the last one of the smaller. The place reached goes on by what each returned.
+    pub(crate) fn write_subtree(&self, image: &mut [u8], depth: usize, n: u64, at: Place) -> Child
+        requires { Ready self.now.request self.now.info.now (length self.now.records.now) (length image.old) depth n at.nodes at.records }
+        ensures { SubtreeWritten self.now.request self.now.records.now image.old image.new depth n at.nodes at.records result }
+    {
+        if depth == 0 {
+            self.write_leaf(image, n as usize, at, filling::whole());
+            return Child {
+                records: n,
+                total: n,
+                nodes: 1,
+            };
+        }
+        let under = depth - 1;
+        let distributed = plan::distribute(self.info.levels[under].cum_max_nrec, n);
+        let large = self.write_subtree(image, under, node::share(&distributed, 0), at);
+        let mut small = large;
+        let mut next = at.after(&large);
+        for i in 1..distributed.kept + 1 {
+            small = self.write_subtree(image, under, node::share(&distributed, i), next);
+            next = next.after(&small);
+        }
+        let internal = InternalNode {
+            distributed,
+            large,
+            small,
+            pointer: self
+                .info
+                .pointer_to(self.request.geometry.offset_size, under as u16),
+            first: at,
+        };
+        self.write_internal(image, &internal, next.nodes, filling::whole());
+        Child {
+            records: distributed.kept,
+            total: n,
+            nodes: next.nodes + 1 - at.nodes,
+        }
+    }
 }

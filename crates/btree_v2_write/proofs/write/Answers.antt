@@ -1,12 +1,13 @@
 -- Refused, or written as planned.
 use Rattle.btree_v2_write.proofs.Calls.{wrote_refused, accepted_planned, wrote_accepted}
+use borrow.Author.Rules.{rules}
 use Rattle.btree_v2_write.proofs.write.Goals as goal
 
-pub returns-in_default : goal.returns-in_default
-returns-in_default c = wrote_refused c.check-checked.ensures c.in_default.is
+pub returns-in_err-planned : goal.returns-in_err-planned
+returns-in_err-planned c = let refused = wrote_refused _ _ _ c.check.ensures c.in_err-planned.was in search (rules, refused)
 
 pub write_planned-requires : goal.write_planned-requires
-write_planned-requires c = accepted_planned c.check-checked.ensures c.in-Planned.is
+write_planned-requires c = accepted_planned _ _ _ c.check.ensures c.in_ok-planned.was
 
 pub returns : goal.returns
-returns c = wrote_accepted c.check-checked.ensures c.in-Planned.is c.write_planned.ensures
+returns c = wrote_accepted _ _ _ c.check.ensures c.in_ok-planned.was c.write_planned.ensures

@@ -3,8 +3,8 @@ use Rattle.btree_v2_write.proofs.Calls.{image_ready, root_some, root_short, both
 use borrow.Author.Rules.{rules}
 use Rattle.btree_v2_write.proofs.write_planned.Goals as goal
 
-pub write_image-root-requires : goal.write_image-root-requires
-write_image-root-requires c = search image_ready
+pub write_subtree-root-requires : goal.write_subtree-root-requires
+write_subtree-root-requires c = search image_ready
 
 pub overflow_sub-root : goal.overflow_sub-root
 overflow_sub-root c = search (root_some, rules)
