@@ -19,9 +19,7 @@ fn agrees(row: &[u64; 18], bytes: &mut &[u8]) -> bool {
     let mut array = [MARK; 512];
     let output = &mut array[..due.len()];
     let collected = collect::collect_btree_v2_records(file, rows::header(&row[1..]), output);
-    let mut found = [0; 7];
-    answers::put_collected(&mut found, collected);
-    found[..] == row[11..] && &*output == due
+    answers::collected_numbers(collected)[..] == row[11..] && &*output == due
 }
 
 // The stored answers.
@@ -53,9 +51,7 @@ fn leaf(file: &[u8], due: [u64; 7], record: &[u8]) -> bool {
     };
     let mut output = [MARK; 8];
     let collected = collect::collect_btree_v2_records(file, header, &mut output);
-    let mut found = [0; 7];
-    answers::put_collected(&mut found, collected);
-    found == due && &output[..] == record
+    answers::collected_numbers(collected) == due && &output[..] == record
 }
 
 // A leaf whose file ends 3 bytes after its records ends early; with a byte more, its checksum differs.

@@ -17,9 +17,7 @@ fn agrees(row: &[u64; 20], bytes: &[u8]) -> bool {
         width: row[12],
     };
     let found = btree_v2_find::find(file, rows::header(&row[2..]), key, row[13]);
-    let mut given = [0; 6];
-    answers::put_found(&mut given, found);
-    given[..] == row[14..]
+    answers::found_numbers(found)[..] == row[14..]
 }
 
 // The stored answers.

@@ -11,10 +11,7 @@ use btree_v2_header::BTreeV2Header;
 fn agrees(row: &[u64; 14], bytes: &mut &[u8]) -> bool {
     let file = rows::next_part(bytes, 128, row[0]);
     let answer = BTreeV2Header::parse(file, row[1], row[2], rows::byte(row[3]), rows::byte(row[4]));
-    let mut found = [0; 9];
-    answers::put_header(&mut found, answer);
-    found[8] = answers::carried_base(answer);
-    found[..] == row[5..]
+    answers::numbers_of(answer)[..] == row[5..]
 }
 
 // The stored answers.

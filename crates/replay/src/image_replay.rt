@@ -15,10 +15,7 @@ fn write(request: Request, records: &[u8], header: &mut [u8], image: &mut [u8]) 
     ensures header { length header.new ≡ length header.old }
     ensures image { length image.new ≡ length image.old }
 {
-    let answer = btree_v2_write::write(request, records, header, image);
-    let mut numbers = [0; 5];
-    answers::put_plan(&mut numbers, answer);
-    numbers
+    answers::numbers_of(btree_v2_write::write(request, records, header, image))
 }
 
 // What a row asks to be written.

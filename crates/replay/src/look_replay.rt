@@ -6,6 +6,7 @@ use crate::look_answers::{LOOK_BYTES, LOOK_ROWS};
 use crate::rows;
 use crate::rows::MARK;
 use crate::tally::Tally;
+use btree_v2_leaf::Leaf;
 
 // Whether the look of a row has its three numbers and leaves the bytes that are due in the output; the file and those are the next of the
 // stored bytes.
@@ -14,18 +15,13 @@ fn agrees(row: &[u64; 10], bytes: &mut &[u8]) -> bool {
     let due = rows::next_part(bytes, 16, row[6]);
     let mut array = [MARK; 16];
     let output = &mut array[..due.len()];
-    let copied = btree_v2_leaf_view::copy_leaf_record(
-        file,
-        row[1],
-        row[2],
-        rows::number16(row[3]),
-        rows::number16(row[4]),
-        row[5],
-        output,
-    );
-    let mut found = [0; 3];
-    answers::put_length(&mut found, copied);
-    found[..] == row[7..] && &*output == due
+    let leaf = Leaf {
+        address: row[2],
+        count: rows::number16(row[3]),
+        record_size: rows::number16(row[4]),
+    };
+    let copied = btree_v2_leaf_view::copy_leaf_record(file, row[1], leaf, row[5], output);
+    answers::numbers_of(copied)[..] == row[7..] && &*output == due
 }
 
 // The stored answers.

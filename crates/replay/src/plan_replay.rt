@@ -10,9 +10,7 @@ use plan::BTreeV2Plan;
 // Whether the plan of a row has its five numbers.
 fn agrees(row: &[u64; 9]) -> bool {
     let answer = BTreeV2Plan::new(row[0], rows::geometry(row[2], row[1], row[3]));
-    let mut found = [0; 5];
-    answers::put_plan(&mut found, answer);
-    found[..] == row[4..]
+    answers::numbers_of(answer)[..] == row[4..]
 }
 
 // The stored answers.

@@ -10,9 +10,7 @@ use crate::tally::Tally;
 fn agrees(row: &[u64; 7], bytes: &mut &[u8]) -> bool {
     let record = rows::next_part(bytes, 32, row[1]);
     let answer = btree_v2_record::read_record(rows::byte(row[0]), record);
-    let mut found = [0; 5];
-    answers::put_values(&mut found, answer);
-    found[..] == row[2..]
+    answers::numbers_of(answer)[..] == row[2..]
 }
 
 // The stored answers.

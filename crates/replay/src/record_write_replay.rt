@@ -20,9 +20,7 @@ fn agrees(row: &[u64; 9], bytes: &mut &[u8]) -> bool {
     let mut array = [MARK; 32];
     let output = &mut array[..due.len()];
     let written = btree_v2_record::write_record(rows::byte(row[0]), values, output);
-    let mut found = [0; 3];
-    answers::put_length(&mut found, written);
-    found[..] == row[6..] && &*output == due
+    answers::numbers_of(written)[..] == row[6..] && &*output == due
 }
 
 // The stored answers.
