@@ -1,11 +1,2 @@
--- The laws of finding: those of its code, and what its answers say.
+-- The laws of finding.
 mod Searching
-mod Descending
-mod Calls
-pub mod Bases
-pub mod Changed
-pub mod Keys
-pub mod Nodes
-pub mod Sorted
-pub mod Everywhere
-pub mod Trials

@@ -2,175 +2,163 @@
 
 #![tactic(auto)]
 
-ghost use Rattle.std.specs.Prelude.{◌≡◌, true};
+ghost use Rattle.std.specs.Prelude.{◌≡◌, ℕ, ◌*◌, ◌/◌, ◌≤◌, ◌<◌, true, length, IsNone, IfSome};
 ghost use Rattle.field.specs.Field.{number_field, number_at};
+ghost use Rattle.node_info.specs.Table.{info_at};
+ghost use Rattle.btree_v2_collect.specs.Walk.{record_place};
 ghost use Rattle.btree_v2_collect.specs.Collect.{collect_tests};
-ghost use Rattle.btree_v2_find.specs.Find.{one_of, last_with, bound, bounding, descent, find_cells, found, found_at};
-ghost use Rattle.btree_v2_find.specs.Answers.{place_of, found_cells};
-ghost use Rattle.btree_v2_find.specs.Descending.{Searched, EndedBy, Widths, RootSought};
+ghost use Rattle.btree_v2_find.specs.Find.{last_with, bound, bounding, descent, find_cells, found_at};
+ghost use Rattle.btree_v2_find.specs.Answers.{place_of, found_cells, found_of};
 
 use btree_v2_header::BTreeV2Header;
-use btree_v2_internal::Node;
+use btree_v2_internal::{Internal, Node};
+use btree_v2_leaf::Leaf;
 use field::Field;
 use node_info::{Geometry, NodeInfo};
-use refusal::{Refusal, Verdict};
+use refusal::Refusal;
 
-// The place of a record in the part of the file from the header's base on, where there is one.
-#[derive(Clone, Copy)]
-pub enum Place {
-    Nowhere,
-    At(u64),
-}
-
-// What finding answers: the nodes read, refused or not, and the place of the record that was found.
+// What finding answers: the nodes read, in a refused call too, and the place of the record that was found, where there is one.
 #[derive(Clone, Copy)]
 pub struct Found {
-    pub verdict: Verdict,
     pub nodes: u64,
-    pub place: Place,
+    pub place: Result<Option<u64>, Refusal>,
 }
 
-// The number of the first record of a node whose key is not below the one sought; the node's count where there is none.
-fn bound(file: &[u8], geometry: Geometry, node: Node, key: Field, sought: u64) -> u16
-    requires { Searched file.now geometry key node.address node.records }
-    ensures { result ≡ bound file.now geometry key sought node.address node.records }
-{
-    let mut place = node.address + format::PREFIX_SIZE;
-    let mut i: u16 = 0;
-    while i < node.records && field::read_number(file, key, place) < sought {
-        place += geometry.record_size as u64;
-        i += 1;
-    }
-    i
-}
-
-// The place of the node's bounding record, record i, where it has the key sought; else the place kept of the nodes before.
-fn keep(
-    file: &[u8],
+// A key that is sought in a part of a file, by a field that the tree's records have.
+#[derive(Clone, Copy)]
+struct Search<'a> {
+    file: &'a [u8],
     geometry: Geometry,
-    node: Node,
-    i: u16,
     key: Field,
     sought: u64,
-    kept: Place,
-) -> Place
-    requires searched { Searched file.now geometry key node.address node.records }
-    requires i_value { i ≡ bound file.now geometry key sought node.address node.records }
-    ensures { place_of result ≡ one_of (last_with (number_at file.now key) sought (bounding file.now geometry key sought node.address node.records)) (place_of kept) }
-{
-    if node.records <= i {
-        return kept;
-    }
-    let place = node.address + format::PREFIX_SIZE + (i as u64) * (geometry.record_size as u64);
-    let same = field::read_number(file, key, place) == sought;
-    if same { Place::At(place) } else { kept }
+    ghost has_key: { number_field key geometry.record_size ≡ true },
 }
 
-// A descent that a test ends, or that has nothing to read.
-fn ended(verdict: Verdict, nodes: u64) -> Found
-    ensures { EndedBy verdict nodes result }
-{
-    Found {
-        verdict,
-        nodes,
-        place: Place::Nowhere,
-    }
+// Where a search in one node leads: to a child of it, and to the place of its bounding record, where that has the key sought.
+#[derive(Clone, Copy)]
+struct Turn {
+    child: u16,
+    place: Option<u64>,
 }
 
-// The descent from the root on.
-fn descend(
-    file: &[u8],
-    geometry: Geometry,
-    count_size: u8,
-    totals: &[u8; 33],
-    depth: u16,
-    root: Node,
-    key: Field,
-    sought: u64,
-) -> Found
-    requires widths { Widths geometry count_size totals.now depth }
-    requires record_size_value { number_field key geometry.record_size ≡ true }
-    ensures { found_cells result ≡ find_cells file.now key sought
-        (descent file.now geometry key sought (collect_tests file.now geometry) depth root.address root.records) }
-{
-    let mut node = root;
-    let mut kept = Place::Nowhere;
-    let mut level = depth;
-    while 0 < level {
-        let under = level - 1;
-        let total_size = totals[under as usize];
-        let tested = btree_v2_internal::check_internal(
-            file, geometry, count_size, total_size, node,
-        );
-        let Verdict::Accepted = tested else {
-            return ended(tested, (depth - level) as u64);
+impl<'a> Search<'a> {
+    // The number of the first of these records whose key is not below the one sought, where there is one.
+    #[tactic(auto, using(crate::proofs::Searching::has_bytes, crate::proofs::Searching::key_of_record))]
+    fn bound(&self, records: &[u8]) -> Option<usize>
+        ensures none { (k : ℕ) → k < length records.now / self.now.geometry.record_size → IsNone result
+            → number_at records.now self.now.key (k * self.now.geometry.record_size) < self.now.sought }
+        ensures among { IfSome result (λ i. i < length records.now / self.now.geometry.record_size) }
+        ensures reached { IfSome result (λ i. self.now.sought ≤ number_at records.now self.now.key (i * self.now.geometry.record_size)) }
+        ensures before { (k : ℕ) → IfSome result (λ i. k < i → number_at records.now self.now.key (k * self.now.geometry.record_size) < self.now.sought) }
+    {
+        records
+            .chunks_exact(self.geometry.record_size as usize)
+            .position(|each| self.sought <= field::read_number(each, self.key, 0))
+    }
+
+    // The search in a node that has its records in the file.
+    fn turn(&self, node: Node) -> Turn
+        requires { record_place self.now.geometry node.address node.records ≤ length self.now.file.now }
+        ensures child { result.child ≡ bound self.now.file.now self.now.geometry self.now.key self.now.sought node.address node.records }
+        ensures place { place_of result.place ≡ last_with (number_at self.now.file.now self.now.key) self.now.sought
+            (bounding self.now.file.now self.now.geometry self.now.key self.now.sought node.address node.records) }
+    {
+        let size = self.geometry.record_size;
+        let records = read_checks::records_of(self.file, node.address, size, node.records);
+        let Some(i) = self.bound(records) else {
+            return Turn {
+                child: node.records,
+                place: None,
+            };
         };
-        let i = bound(file, geometry, node, key, sought);
-        kept = keep(file, geometry, node, i, key, sought, kept);
-        node = btree_v2_internal::read_pointer(file, geometry, count_size, total_size, node, i);
-        level = under;
+        let at = i * (size as usize);
+        let place = node.address + format::PREFIX_SIZE + (at as u64);
+        let same = field::read_number(&records[at..], self.key, 0) == self.sought;
+        Turn {
+            child: i as u16,
+            place: if same { Some(place) } else { None },
+        }
     }
-    let tested = btree_v2_leaf::check_leaf(file, node.address, node.records, geometry.record_size);
-    let Verdict::Accepted = tested else {
-        return ended(tested, depth as u64);
-    };
-    let i = bound(file, geometry, node, key, sought);
-    Found {
-        verdict: Verdict::Accepted,
-        nodes: depth as u64 + 1,
-        place: keep(file, geometry, node, i, key, sought, kept),
+
+    // The descent from the root on; it counts the nodes whose tests pass.
+    fn descend(
+        &self,
+        info: &NodeInfo,
+        depth: u16,
+        root: Node,
+        nodes: &mut u64,
+    ) -> Result<Option<u64>, Refusal>
+        requires table { info.now ≡ info_at self.now.geometry depth }
+        requires deep { depth ≤ 32 }
+        requires none_read { nodes.old ≡ 0 }
+        ensures { found_cells (found_of nodes.new result) ≡ find_cells self.now.file.now self.now.key self.now.sought
+            (descent self.now.file.now self.now.geometry self.now.key self.now.sought (collect_tests self.now.file.now self.now.geometry) depth root.address root.records) }
+    {
+        let geometry = self.geometry;
+        let mut node = root;
+        let mut kept = None;
+        for level in (0..depth).rev() {
+            let internal = Internal {
+                node,
+                record_size: geometry.record_size,
+                pointer: info.pointer_to(geometry.offset_size, level),
+            };
+            internal.check(self.file)?;
+            *nodes += 1;
+            let turn = self.turn(node);
+            kept = turn.place.or(kept);
+            node = internal.child(self.file, turn.child);
+        }
+        let leaf = Leaf {
+            address: node.address,
+            count: node.records,
+            record_size: geometry.record_size,
+        };
+        leaf.check(self.file)?;
+        *nodes += 1;
+        Ok(self.turn(node).place.or(kept))
     }
 }
 
-// Finds from the root on: the widths of the pointers by the capacity table, and the descent.
-fn find_from_root(file: &[u8], header: BTreeV2Header, key: Field, sought: u64) -> Found
-    requires { RootSought header key }
-    ensures { found_cells result ≡ found file.now header key sought }
+// Seeks the record of the header's tree in the part of the file from the header's base on; it counts the nodes whose tests pass.
+fn seek(
+    file: &[u8],
+    header: BTreeV2Header,
+    key: Field,
+    sought: u64,
+    nodes: &mut u64,
+) -> Result<Option<u64>, Refusal>
+    requires { nodes.old ≡ 0 }
+    ensures { found_cells (found_of nodes.new result) ≡ found_at file.now header key sought }
 {
+    let part = read_checks::part_from(file, header.base)?;
+    if read_checks::is_empty(header.total_records, header.num_records_in_root) {
+        return Ok(None);
+    }
     let geometry = header.geometry;
-    let answer = NodeInfo::compute(geometry, header.depth);
-    let info = answer.info;
+    read_checks::check_root(geometry.record_size, header.depth)?;
+    if !field::is_number_field(key, geometry.record_size) {
+        return Err(Refusal::InvalidKeyField);
+    }
+    let info = NodeInfo::compute(geometry, header.depth)?;
+    let search = Search {
+        file: part,
+        geometry,
+        key,
+        sought,
+    };
     let root = Node {
         address: header.root_node_address,
         records: header.num_records_in_root,
     };
-    descend(
-        file,
-        geometry,
-        info.max_nrec_size,
-        &info.cum_max_nrec_size,
-        header.depth,
-        root,
-        key,
-        sought,
-    )
-}
-
-// Finds the record of the header's tree, which stands in a part of a file.
-fn find_in_part(part: &[u8], header: BTreeV2Header, key: Field, sought: u64) -> Found
-    ensures { found_cells result ≡ found part.now header key sought }
-{
-    if read_checks::is_empty(header.total_records, header.num_records_in_root) {
-        return ended(Verdict::Accepted, 0);
-    }
-    let geometry = header.geometry;
-    let tested = read_checks::check_root(geometry.record_size, header.depth);
-    let Verdict::Accepted = tested else {
-        return ended(tested, 0);
-    };
-    if field::is_number_field(key, geometry.record_size) {
-        return find_from_root(part, header, key, sought);
-    }
-    ended(Verdict::Refused(Refusal::InvalidKeyField), 0)
+    search.descend(&info, header.depth, root, nodes)
 }
 
 // Finds the record of the header's tree that has this key in this field. Its place counts from the header's base on, as the addresses do.
 pub fn find(file: &[u8], header: BTreeV2Header, key: Field, sought: u64) -> Found
     ensures { found_cells result ≡ found_at file.now header key sought }
 {
-    let within = read_checks::check_base(file, header.base);
-    let Verdict::Accepted = within else {
-        return ended(within, 0);
-    };
-    find_in_part(&file[header.base as usize..], header, key, sought)
+    let mut nodes = 0;
+    let place = seek(file, header, key, sought, &mut nodes);
+    Found { nodes, place }
 }
