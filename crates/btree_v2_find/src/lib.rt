@@ -2,12 +2,13 @@
 
 #![tactic(auto)]
 
-ghost use Rattle.std.specs.Prelude.{◌≡◌, ℕ, ◌*◌, ◌/◌, ◌≤◌, ◌<◌, true, length, IsNone, IfSome};
+ghost use Rattle.std.specs.Prelude.{◌≡◌, ◌≤◌, true, length};
 ghost use Rattle.field.specs.Field.{number_field, number_at};
 ghost use Rattle.node_info.specs.Table.{info_at};
 ghost use Rattle.btree_v2_collect.specs.Walk.{record_place};
 ghost use Rattle.btree_v2_collect.specs.Collect.{collect_tests};
 ghost use Rattle.btree_v2_find.specs.Find.{last_with, bound, bounding, descent, find_cells, found_at};
+ghost use Rattle.btree_v2_find.specs.Descending.{bound_at};
 ghost use Rattle.btree_v2_find.specs.Answers.{place_of, found_cells, found_of};
 
 use btree_v2_header::BTreeV2Header;
@@ -36,47 +37,46 @@ struct Search<'a> {
 
 // Where a search in one node leads: to a child of it, and to the place of its bounding record, where that has the key sought.
 #[derive(Clone, Copy)]
-struct Turn {
+struct Step {
     child: u16,
     place: Option<u64>,
 }
 
 impl<'a> Search<'a> {
-    // The number of the first of these records whose key is not below the one sought, where there is one.
-    #[tactic(auto, using(crate::proofs::Searching::has_bytes, crate::proofs::Searching::key_of_record))]
-    fn bound(&self, records: &[u8]) -> Option<usize>
-        ensures none { (k : ℕ) → k < length records.now / self.now.geometry.record_size → IsNone result
-            → number_at records.now self.now.key (k * self.now.geometry.record_size) < self.now.sought }
-        ensures among { IfSome result (λ i. i < length records.now / self.now.geometry.record_size) }
-        ensures reached { IfSome result (λ i. self.now.sought ≤ number_at records.now self.now.key (i * self.now.geometry.record_size)) }
-        ensures before { (k : ℕ) → IfSome result (λ i. k < i → number_at records.now self.now.key (k * self.now.geometry.record_size) < self.now.sought) }
+    // The number of the node's first record whose key is not below the one sought, where there is one. The file has the node's records.
+    #[tactic(auto, using(crate::proofs::Searching::has_bytes))]
+    fn bound(&self, node: Node) -> Option<usize>
+        requires { record_place self.now.geometry node.address node.records ≤ length self.now.file.now }
+        ensures { result ≡ bound_at self.now.file.now self.now.geometry self.now.key self.now.sought node.address node.records }
     {
-        records
-            .chunks_exact(self.geometry.record_size as usize)
-            .position(|each| self.sought <= field::read_number(each, self.key, 0))
+        let size = self.geometry.record_size;
+        read_checks::records_of(self.file, node.address, size, node.records)
+            .chunks_exact(size as usize)
+            .position(|record| self.sought <= self.key.read(record, 0))
     }
 
-    // The search in a node that has its records in the file.
-    fn turn(&self, node: Node) -> Turn
+    // The search in a node, whose records the file has.
+    #[tactic(auto, using(crate::proofs::Searching::child_none, crate::proofs::Searching::place_none, crate::proofs::Searching::child_some, crate::proofs::Searching::place_some))]
+    fn step(&self, node: Node) -> Step
         requires { record_place self.now.geometry node.address node.records ≤ length self.now.file.now }
         ensures child { result.child ≡ bound self.now.file.now self.now.geometry self.now.key self.now.sought node.address node.records }
         ensures place { place_of result.place ≡ last_with (number_at self.now.file.now self.now.key) self.now.sought
             (bounding self.now.file.now self.now.geometry self.now.key self.now.sought node.address node.records) }
     {
-        let size = self.geometry.record_size;
-        let records = read_checks::records_of(self.file, node.address, size, node.records);
-        let Some(i) = self.bound(records) else {
-            return Turn {
+        match self.bound(node) {
+            None => Step {
                 child: node.records,
                 place: None,
-            };
-        };
-        let at = i * (size as usize);
-        let place = node.address + format::PREFIX_SIZE + (at as u64);
-        let same = field::read_number(&records[at..], self.key, 0) == self.sought;
-        Turn {
-            child: i as u16,
-            place: if same { Some(place) } else { None },
+            },
+            Some(i) => {
+                let offset = i as u64 * (self.geometry.record_size as u64);
+                let place = node.address + format::PREFIX_SIZE + offset;
+                let same = self.key.read(self.file, place) == self.sought;
+                Step {
+                    child: i as u16,
+                    place: same.then_some(place),
+                }
+            }
         }
     }
 
@@ -105,9 +105,9 @@ impl<'a> Search<'a> {
             };
             internal.check(self.file)?;
             *nodes += 1;
-            let turn = self.turn(node);
-            kept = turn.place.or(kept);
-            node = internal.child(self.file, turn.child);
+            let step = self.step(node);
+            kept = step.place.or(kept);
+            node = internal.child(self.file, step.child);
         }
         let leaf = Leaf {
             address: node.address,
@@ -116,11 +116,12 @@ impl<'a> Search<'a> {
         };
         leaf.check(self.file)?;
         *nodes += 1;
-        Ok(self.turn(node).place.or(kept))
+        Ok(self.step(node).place.or(kept))
     }
 }
 
 // Seeks the record of the header's tree in the part of the file from the header's base on; it counts the nodes whose tests pass.
+#[tactic(auto, unfolding(crate::specs::Find::found_at, crate::specs::Find::descended, crate::specs::Find::key_test, read_checks::specs::Base::on_part))]
 fn seek(
     file: &[u8],
     header: BTreeV2Header,
@@ -137,7 +138,7 @@ fn seek(
     }
     let geometry = header.geometry;
     read_checks::check_root(geometry.record_size, header.depth)?;
-    if !field::is_number_field(key, geometry.record_size) {
+    if !key.is_in(geometry.record_size) {
         return Err(Refusal::InvalidKeyField);
     }
     let info = NodeInfo::compute(geometry, header.depth)?;

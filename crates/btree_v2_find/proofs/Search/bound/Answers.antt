@@ -1,11 +1,10 @@
--- `bound`: the records before the one that bounds.
-use Rattle.std.proofs.Common.{arith, rules}
-use Rattle.std.proofs.lemmas.Grind.{common_steps}
-use Rattle.btree_v2_find.proofs.Searching.{has_bytes, key_of_record}
+-- `bound`: the first record whose key is not below the one sought.
+use Rattle.std.proofs.Common.{rules}
+use Rattle.btree_v2_find.proofs.Searching.{position_is}
 use Rattle.btree_v2_find.proofs.Search.bound.Goals as goal
 
-pub returns-clause-before : goal.returns-clause-before
-returns-clause-before c = λ k. grind (arith, common_steps, has_bytes, key_of_record)
-
-pub returns-clause-none : goal.returns-clause-none
-returns-clause-none c = λ k h e. ?
+pub returns : goal.returns
+returns c =
+    let cut = c.chunks_exact.ensures in
+    position_is _ _ _ _ _ _ _ _ _ c.args.self.now.has_key c.requires cut.size (rw c.records_of.ensures at cut.rest) cut.runs (λ a r q h. search rules)
+    (λ y b h. search rules) _ c.position.ensures.runs
