@@ -1,7 +1,7 @@
 // The stored trees, good and damaged, run through `btree_v2_collect::collect::collect_btree_v2_records`, and a leaf without its checksum; each answer
 // is counted once.
 
-ghost use Rattle.std.specs.Prelude.{◌≡◌, ◌+◌, ◌≤◌, ◌<◌, length};
+ghost use Rattle.std.specs.Prelude.{◌≡◌, ◌+◌};
 
 use crate::collect_answers::{COLLECT_BYTES, COLLECT_ROWS};
 use crate::rows;

@@ -34,9 +34,8 @@ fn request(row: &[u64; 14]) -> Request {
 fn agrees(row: &[u64; 14], bytes: &mut &[u8]) -> bool {
     let header_due = rows::next_part(bytes, 64, row[7]);
     let image_due = rows::next_part(bytes, 1024, row[8]);
-    let mut records = &rows::input::<512>(row[1])[..];
-    let length = (row[1] % 65536) * (row[2] % 65536);
-    let records = rows::next_part(&mut records, 512, length);
+    let length = ((row[1] % 65536) * (row[2] % 65536)).min(512) as usize;
+    let records = &rows::input::<512>(row[1])[..length];
     let mut header_array = [MARK; 64];
     let mut image_array = [MARK; 1024];
     let header = &mut header_array[..header_due.len()];

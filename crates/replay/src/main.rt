@@ -1,6 +1,6 @@
 // Runs lists of known answers through the libraries; a line for each list says how many agreed and how many differed.
 // A part of the format has two modules here: NAME_answers holds the list, NAME_replay runs it and returns its tally. The functions that
-// compare an answer with a row (`agrees`, `leaves`, `leaf`, `are`), and `header`, which makes a call's input of one, promise nothing of their
+// compare an answer with a row (`agrees`, `leaf`), and `header` and `request`, which make a call's input of one, promise nothing of their
 // result: the answers due stand in the code alone, so a contract could only repeat it. `print` and `main` write, of which no contract speaks.
 
 #![tactic(auto)]

@@ -1,7 +1,7 @@
-// The numbers and bytes of a stored row, and how they are held against what a call gives.
+// The numbers and bytes of a stored row, as a call's inputs.
 
-ghost use Rattle.std.specs.Prelude.{◌≡◌, ◌+◌, ◌*◌, ◌%◌, ◌≤◌, ◌<◌, ◌++◌, length};
-ghost use Rattle.replay.specs.Inputs.{byte_of, bytes_of};
+ghost use Rattle.std.specs.Prelude.{◌≡◌, ◌%◌, ◌≤◌, ◌++◌, length};
+ghost use Rattle.replay.specs.Inputs.{bytes_of};
 
 use btree_v2_header::BTreeV2Header;
 use node_info::Geometry;
