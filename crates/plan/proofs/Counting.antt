@@ -12,7 +12,7 @@ use Rattle.node_info.specs.Table.{no_level}
 use lib.ListN.{length, get_or-append, length-append}
 use lib.Seq.{get_or-append_seam}
 use mathlib.Core.List.{List, [], ◌∷◌, ◌++◌}
-use Rattle.plan.specs.Steps.{capacity_in, Countable, Counted, FewChildren}
+use Rattle.plan.specs.Steps.{capacity_in, over_children, Countable, Counted, FewChildren}
 use Rattle.plan.specs.Tree.{below, nodes, leaves}
 use Rattle.plan.specs.Planned.{taken, distribution, plan_tree, thin}
 use Rattle.plan.specs.declared.Distribution.{Distribution}
@@ -135,8 +135,8 @@ module _ (b lower : List Level) (child : Level) (e : b ≡ lower ++ (child ∷ [
           }
 
       module _ (all larger : Counts)
-          (hn : all.nodes ≡ x.extra * larger.nodes + (x.kept + 1 - x.extra) * smaller.nodes + 1)
-          (hl : all.leaves ≡ x.extra * larger.leaves + (x.kept + 1 - x.extra) * smaller.leaves) where
+          (hn : all.nodes ≡ over_children x larger.nodes smaller.nodes + 1)
+          (hl : all.leaves ≡ over_children x larger.leaves smaller.leaves) where
         counted : x.extra * larger.nodes ≡ x.extra * nodes d (plan_tree c d (x.base + 1))
             → x.extra * larger.leaves ≡ x.extra * leaves d (plan_tree c d (x.base + 1))
             → Counted b n all

@@ -1,5 +1,5 @@
 -- What the planner's private steps ask and give.
-use Rattle.std.specs.Prelude.{◌≡◌, true, false, ◌||◌, List, length, slice_index_or, ℕ, ◌^◌, ◌≤◌, ◌<◌, ltb, eqb}
+use Rattle.std.specs.Prelude.{◌≡◌, true, false, ◌||◌, List, length, slice_index_or, ℕ, ◌+◌, ◌-◌, ◌*◌, ◌^◌, ◌≤◌, ◌<◌, ltb, eqb}
 use Rattle.numbers.specs.Numbers.{field_size}
 use Rattle.node_info.specs.Table.{info_at, no_level}
 use Rattle.node_info.specs.declared.NodeInfo.{NodeInfo}
@@ -40,6 +40,11 @@ pub record Counted (below : List Level) (n : ℕ) (counts : Counts) : Type 0 whe
   pub «leaves» : counts.leaves ≡ leaves (length below) (plan_tree (capacity_in below) (length below) n)
   pub few_nodes : counts.nodes < 2 ^ 24
   pub few_leaves : counts.leaves < 2 ^ 24
+
+-- A sum over a node's children, of `larger` for each that gets one record more, and of `smaller` for each of the others.
+abbrev pub over_children : Distribution → ℕ → ℕ → ℕ
+over_children distributed larger smaller =
+    distributed.extra * larger + (distributed.kept + 1 - distributed.extra) * smaller
 
 -- The nodes of a node's children can be added up: neither the children nor the nodes of one are many.
 pub record FewChildren (distributed : Distribution) (larger smaller : Counts) : Type 0 where

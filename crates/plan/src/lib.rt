@@ -2,10 +2,10 @@
 
 #![tactic(auto)]
 
-ghost use Rattle.std.specs.Prelude.{◌≡◌, not, ◌&&◌, ◌+◌, ◌-◌, ◌*◌, ◌^◌, ◌≤◌, ltb, eqb, IfOk, IfErr};
+ghost use Rattle.std.specs.Prelude.{◌≡◌, not, ◌&&◌, ◌+◌, ◌-◌, ◌^◌, ◌≤◌, ltb, eqb, IfOk, IfErr};
 ghost use Rattle.refusal.specs.Answer.{refusal_of};
 ghost use Rattle.node_info.specs.Table.{info_at};
-ghost use Rattle.plan.specs.Steps.{Passed, Found, FewChildren, Countable, Counted};
+ghost use Rattle.plan.specs.Steps.{Passed, Found, over_children, FewChildren, Countable, Counted};
 ghost use Rattle.plan.specs.Planned.{distribution, plan_answer, plan_answer_of, Laid};
 
 use node_info::{Geometry, Level, NodeInfo};
@@ -77,8 +77,8 @@ impl Distribution {
     // The counts of a node of which each larger child, and each smaller one, has these.
     fn counts(&self, larger: Counts, smaller: Counts) -> Counts
         requires { FewChildren self.now larger smaller }
-        ensures nodes { result.nodes ≡ self.now.extra * larger.nodes + (self.now.kept + 1 - self.now.extra) * smaller.nodes + 1 }
-        ensures leaves { result.leaves ≡ self.now.extra * larger.leaves + (self.now.kept + 1 - self.now.extra) * smaller.leaves }
+        ensures nodes { result.nodes ≡ over_children self.now larger.nodes smaller.nodes + 1 }
+        ensures leaves { result.leaves ≡ over_children self.now larger.leaves smaller.leaves }
     {
         let others = self.kept + 1 - self.extra;
         Counts {
@@ -129,6 +129,7 @@ fn deepen(info: &mut NodeInfo, record_count: u64, geometry: Geometry) -> Result<
     ensures found { IfOk result (λ depth. Found record_count geometry info.new depth) }
     ensures none { IfErr result (λ cause. refusal_of cause ≡ plan_answer record_count geometry) }
 {
+    // counted by hand, since no range has an end here: the depth is what is sought
     let mut depth: u16 = 0;
     while info.levels[depth as usize].cum_max_nrec < record_count {
         if info.levels[depth as usize].max_nrec == 0 {
