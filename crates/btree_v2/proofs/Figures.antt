@@ -1,28 +1,27 @@
 -- The header that a C caller's figures tell, and the functions without a base by those with one.
+use Rattle.std.proofs.Common.{Ok}
 use mathlib.Core.Path.{◌≡◌, refl, sym, ◌∙◌}
 use mathlib.Core.List.{List, [], ◌∷◌, ◌++◌}
 use Prim.Native.Nat.{ℕ, ◌+◌, ◌^◌, ◌≤◌, ◌<◌}
 use native.Mathlib.Nat.{mod-eq_of_lt}
 use native.Mathlib.Omega.{arith}
-use lib.ListN.{length, get_or, set, drop, get_or-eq_default}
+use lib.ListN.{length, get_or, take, drop, get_or-eq_default}
 use lib.Seq.{get_or-drop}
 use Rattle.numbers.proofs.Numbers.{num_lt}
-use Rattle.numbers.specs.Places.{stored, put}
-use Rattle.numbers.proofs.Lists.{put_fits, length_stored, stored_whole, stored_snoc}
-use Rattle.refusal.specs.Answer.{Answer, cells}
-use Rattle.refusal.proofs.Answers.{length_cells, cells_snoc}
+use Rattle.refusal.specs.Answer.{cells}
+use Rattle.refusal.proofs.Answers.{cells_front}
 use Rattle.field.specs.declared.Field.{Field}
 use Rattle.btree_v2_header.specs.declared.BTreeV2Header.{BTreeV2Header}
-use Rattle.btree_v2_header.specs.Header.{header_figures, header_at, with_base}
+use Rattle.btree_v2_header.specs.Header.{header_figures, header_at, with_base, parsed, parsed_at}
+use Rattle.btree_v2_header.proofs.Bases.{cells_whole}
 use Rattle.btree_v2_header.specs.Answers.{Parses}
-use Rattle.btree_v2_header.specs.declared.HeaderAnswer.TheVariants as header
 use Rattle.btree_v2_collect.specs.Collect.{collected, collected_at}
-use Rattle.btree_v2_collect.specs.Answers.{Ends}
-use Rattle.btree_v2_collect.specs.declared.Collected.{Collected}
 use Rattle.btree_v2_collect.proofs.Bases.{collected_whole}
 use Rattle.btree_v2_find.specs.Find.{found, found_at}
 use Rattle.btree_v2_find.proofs.Bases.{found_whole}
-use Rattle.header_figures.specs.Figures.{header_from}
+use Rattle.btree_v2_leaf_view.specs.Look.{record_answer, record_exit, record_answer_at, record_exit_at}
+use Rattle.btree_v2_leaf_view.proofs.Bases.{look_whole}
+use Rattle.header_figures.specs.Figures.{sizes, given, header_from}
 
 -- Numbers of a header that are within their fields' ranges.
 pub record InRange (h : BTreeV2Header) : Type 0 where
@@ -50,50 +49,31 @@ in_range file base o ow lw bytes =
       root_records = omega (arith, num_lt file (o + 16 + ow) 2 bytes);
     }
 
-pub carried_on : (file : List ℕ) (base o ow lw : ℕ) (h : BTreeV2Header) → ((i : ℕ) → get_or file i 0 < 256) → Parses file base o ow lw (header.Parsed h)
+pub carried_on : (file : List ℕ) (base o ow lw : ℕ) (h : BTreeV2Header) → ((i : ℕ) → get_or file i 0 < 256) → Parses file base o ow lw (Ok h)
     → header_from (header_figures h ++ (h.base ∷ [])) ow ≡ h
 unfolding header_at
 carried_on file base o ow lw h bytes parses =
     rw (parses.fields h refl) (told_as_read _ (in_range (drop base file) base o ow lw (λ i. rw (get_or-drop base file i 0) (bytes (base + i)))))
 
--- Of seven figures the base is 0.
-no_base : (figures : List ℕ) → length figures < 8 → 0 ≡ get_or figures 7 0
-no_base figures h = sym (get_or-eq_default figures 0 (omega arith))
+-- The functions without a base by those with one: base 0.
+module _ (file : List ℕ) where
+  -- Eight numbers of a header read.
+  pub parse_whole : (o ow lw : ℕ) → take 8 (cells 9 (parsed_at file 0 o ow lw)) ≡ cells 8 (parsed file o ow lw)
+  parse_whole o ow lw = cells_front 8 (parsed_at file 0 o ow lw) ∙ cells_whole 8 file o ow lw
 
--- A header read's numbers over the front of an answer of eight places, or of nine, with the base behind them.
-module _ (o n : List ℕ) (x y : Answer) (same : x ≡ y) (room : (8 ≤ length o) × (length o ≤ 9)) (read : n ≡ put o 0 (cells 8 x)) where
-  front : n ≡ stored o 0 (cells 8 x)
-  front = read ∙ put_fits o 0 (cells 8 x) (omega (arith, length_cells 8 x))
+  -- A header's numbers as figures.
+  pub collect_whole : (t ns rs depth root count total ow : ℕ) (out : List ℕ) → t < 2 ^ 8 → ns < 2 ^ 32 → rs < 2 ^ 16 → depth < 2 ^ 16 → count < 2 ^ 16
+      → collected_at file (header_from (t ∷ ns ∷ rs ∷ depth ∷ root ∷ count ∷ total ∷ 0 ∷ []) ow) out ≡ collected file (given t (sizes ns rs ow) depth root count total 0) out
+  collect_whole t ns rs depth root count total ow out t_fits ns_fits rs_fits depth_fits count_fits =
+      let h : BTreeV2Header = given t (sizes ns rs ow) depth root count total 0 in
+      rw
+      (told_as_read h (record { tree_type = t_fits; node_size = ns_fits; record_size = rs_fits; depth = depth_fits; root_records = count_fits }))
+      (collected_whole h out file refl)
 
-  kept : length n ≡ length o
-  kept = rw front (length_stored o 0 (cells 8 x) (omega (arith, length_cells 8 x)))
+  -- Of seven figures the base is 0.
+  pub find_whole : (l : List ℕ) (ow : ℕ) (f : Field) (x : ℕ) → length l ≡ 7 → found_at file (header_from l ow) f x ≡ found file (header_from l ow) f x
+  find_whole l ow f x seven = found_whole (header_from l ow) f x file (get_or-eq_default l 0 (omega arith))
 
-  pub eight_read : length n ≤ 8 → n ≡ cells (length o) y
-  eight_read l =
-      let eight : length o ≡ 8 = omega (arith, kept) in
-      rw (← same, eight) (front ∙ stored_whole o (cells 8 x) (omega (arith, length_cells 8 x)))
-
-  pub nine_read : {b : ℕ} → 8 < length n → b ≡ get_or (cells 9 x) 8 0 → set n 8 b ≡ cells (length o) y
-  nine_read {b} l is =
-      let nine : length o ≡ 9 = omega (arith, kept) in
-      let behind : 0 + length (cells 8 x) ≡ 8 = omega (arith, length_cells 8 x) in
-      let more = rw behind at (stored_snoc o 0 (cells 8 x) b (omega (arith, length_cells 8 x))) in
-      let whole : stored o 0 (cells 9 x) ≡ cells 9 x = stored_whole o (cells 9 x) (omega (arith, length_cells 9 x)) in
-      rw (← same, nine, front) (more ∙ rw (is, cells_snoc 8 x) whole)
-
--- Collecting.
-pub collect_told : (file out : List ℕ) (h k : BTreeV2Header) (r : Collected) (exit : List ℕ) → h ≡ k → Ends (collected_at file h out) r exit
-    → Ends (collected_at file k out) r exit
-collect_told file out h k r exit e ends = rw e at ends
-
-pub collect_whole : (file out : List ℕ) (h : BTreeV2Header) → InRange h → h.base ≡ 0
-    → collected_at file (header_from (header_figures h ++ (h.base ∷ [])) h.geometry.offset_size) out ≡ collected file h out
-collect_whole file out h r z = rw (told_as_read h r) (collected_whole h out file z)
-
--- Finding; of seven figures the base is 0.
-module _ (file : List ℕ) (f : Field) (x : ℕ) {answer : List ℕ} where
-  pub find_told : {h k : BTreeV2Header} {cells : List ℕ} → answer ≡ cells → cells ≡ found_at file h f x → h ≡ k → answer ≡ found_at file k f x
-  find_told put is told = put ∙ is ∙ rw told
-
-  pub find_whole : (l : List ℕ) (ow : ℕ) → answer ≡ found_at file (header_from l ow) f x → 7 ≡ length l → answer ≡ found file (header_from l ow) f x
-  find_whole l ow is seven = is ∙ found_whole (header_from l ow) f x file (sym (no_base l (omega arith)))
+  pub record_whole : (rs a n i : ℕ) (out : List ℕ)
+      → (record_answer_at file 0 rs a n i out ≡ record_answer file rs a n i out) × (record_exit_at file 0 rs a n i out ≡ record_exit file rs a n i out)
+  record_whole rs a n i out = let whole = look_whole rs a n i out file in (whole.answer, whole.exit)

@@ -109,6 +109,7 @@ pub extern "C" fn btree_v2_write(
 // The reading calls. Those that end in `_at` read the part of a file from a base on, and count every place in it; the others read with base 0.
 
 // The header at an offset: type, node size, record size, depth, root's address and records, records in all; and the base.
+#[tactic(auto, using(crate::proofs::Figures::parse_whole))]
 #[unsafe(no_mangle)]
 pub extern "C" fn btree_v2_parse(
     file: &[u8],
@@ -156,6 +157,7 @@ pub extern "C" fn btree_v2_collect_at(
     *answer = answers::collected_numbers(collected);
 }
 
+#[tactic(auto, using(crate::proofs::Figures::collect_whole))]
 #[unsafe(no_mangle)]
 pub extern "C" fn btree_v2_collect(
     file: &[u8],
@@ -209,6 +211,7 @@ fn find_told(
 
 // The record of a header's tree that has the key sought in this field. The answer has the refusal's number and two values, zeros where the
 // call is accepted; then, refused or not, the nodes read; then 1 and the record's place, or zeros where none was found.
+#[tactic(auto, using(crate::proofs::Figures::find_whole))]
 #[unsafe(no_mangle)]
 pub extern "C" fn btree_v2_find(
     file: &[u8],
@@ -263,6 +266,7 @@ pub extern "C" fn btree_v2_leaf_record_at(
     *answer = answers::numbers_of(copied);
 }
 
+#[tactic(auto, using(crate::proofs::Figures::record_whole))]
 #[unsafe(no_mangle)]
 pub extern "C" fn btree_v2_leaf_record(
     file: &[u8],
