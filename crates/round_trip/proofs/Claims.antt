@@ -11,8 +11,7 @@ use Rattle.numbers.specs.Numbers.{saturated, part}
 use Rattle.refusal.specs.declared.Refusal.{Refusal}
 use Rattle.refusal.specs.Answer.{Answer, accepted, refused, cells, verdict_of}
 use Rattle.refusal.proofs.Answers.{refused_is}
-use Rattle.plan.specs.declared.PlanAnswer.{PlanAnswer}
-use Rattle.plan.specs.declared.PlanAnswer.TheVariants.{Planned}
+use Rattle.std.specs.Prelude.{Result, Ok, Err, ⊤}
 use Rattle.plan.specs.declared.BTreeV2Plan.{BTreeV2Plan}
 use Rattle.plan.specs.Tree
 use Rattle.plan.specs.Planned.{plan_figures, plan_answer_of}
@@ -34,10 +33,6 @@ use Rattle.format.proofs.HeaderLengths.{length_header_from}
 use Rattle.write_checks.proofs.Outputs.{header-put, image_put}
 use Rattle.round_trip.proofs.Returned.{returns, returns_header, returns_fields, returns_none}
 use Rattle.btree_v2_header.specs.declared.BTreeV2Header.{BTreeV2Header}
-use Rattle.btree_v2_header.specs.declared.HeaderAnswer.{HeaderAnswer}
-use Rattle.btree_v2_header.specs.declared.HeaderAnswer.TheVariants as header
-use Rattle.refusal.specs.declared.Verdict.{Verdict}
-use Rattle.refusal.specs.declared.Verdict.TheVariants as verdict
 use Rattle.btree_v2_collect.specs.declared.Tally.{Tally}
 use Rattle.btree_v2_collect.specs.declared.Collected.{Collected}
 use Rattle.btree_v2_header.specs.Answers.{header_answer_of, Parses}
@@ -60,7 +55,7 @@ read_back q s =
     on_header (parsed_at s.file s.base s.place ow lw) (with_base s.base (header_at (part_of s) s.place ow lw)) s.file s.output
 
 -- An accepted walk's cells: the verdict accepts, and each count is the walk's, saturated.
-record CellsSay (v : Verdict) (t : Tally) (c : Counts) : Type 0 where
+record CellsSay (v : Result ⊤ Refusal) (t : Tally) (c : Counts) : Type 0 where
   verdict : verdict_of v ≡ accepted []
   records : t.records ≡ saturated c.records
   leaves : t.leaves ≡ saturated c.leaves
@@ -70,18 +65,14 @@ record CellsSay (v : Verdict) (t : Tally) (c : Counts) : Type 0 where
 abbrev counted : Tally → List ℕ
 counted t = t.records ∷ t.leaves ∷ t.internals ∷ t.internal_records ∷ []
 
-cells_say : (v : Verdict) (t : Tally) (c : Counts) → cells 3 (verdict_of v) ++ counted t ≡ cells 3 (accepted []) ++ count_cells c → CellsSay v t c
+cells_say : (v : Result ⊤ Refusal) (t : Tally) (c : Counts) → cells 3 (verdict_of v) ++ counted t ≡ cells 3 (accepted []) ++ count_cells c → CellsSay v t c
 unfolding cells
-cells_say verdict.Accepted t c e = record { verdict = refl; records = cc; leaves = cc; internals = cc; internal_records = cc }
-cells_say (verdict.Refused r) t c e =
+cells_say (Ok tt) t c e = record { verdict = refl; records = cc; leaves = cc; internals = cc; internal_records = cc }
+cells_say (Err r) t c e =
     let s = refused_is r in
     let f : cells 3 (refused s.0 s.1) ++ counted t ≡ cells 3 (accepted []) ++ count_cells c = rw s.2 at e in
     let z : s.0 ≡ 0 = ap (λ (l : List ℕ). get_or l 0 0) f in
     absurd (omega (arith, z, s.4))
-
--- A collecting that a refused header ends.
-abbrev pub nothing : Refusal → Collected
-nothing cause = record { verdict = verdict.Refused cause; tally = record { records = 0; leaves = 0; internals = 0; internal_records = 0 } }
 
 abbrev figures_of : BTreeV2Plan → List ℕ
 figures_of p = p.depth ∷ p.nodes ∷ p.leaves ∷ p.image_size ∷ []
@@ -217,24 +208,22 @@ module _ (q : Request) (p : BTreeV2Plan) (s : Lent) (ok : written q s.records s.
     complete : Complete q p s r o
     complete = ⊎_elim none_complete some_complete (eq-zero-or-pos q.record_count)
 
--- `collect_parsed`, by the header reader's answer.
-module _ (file out : List ℕ) (p : HeaderAnswer) where
-  pub collects_parsed : (found : BTreeV2Header) (c : Collected) (o : List ℕ) → p ≡ header.Parsed found
-      → collected_cells c ≡ run_cells (collected_at file found out) → o ≡ run_output (collected_at file found out) → Collects (on_parsed p file out) c o
-  collects_parsed found c o e hc ho = rw e (record { cells = hc; output = ho })
-
-  pub collects_refused : (cause : Refusal) → p ≡ header.Refused cause → Collects (on_parsed p file out) (nothing cause) out
+-- `collect_parsed`, where the header reader refuses.
+module _ (file out : List ℕ) (p : Result BTreeV2Header Refusal) where
+  pub collects_refused : (cause : Refusal) → p ≡ Err cause → (t : Tally) → (t.records ≡ 0) × ((t.leaves ≡ 0) × ((t.internals ≡ 0) × (t.internal_records ≡ 0)))
+      → Collects (on_parsed p file out) (record { verdict = Err cause; tally = t }) out
   unfolding run_cells
-  collects_refused cause e = let t = refused_is cause in record { cells = rw (e, t.2); output = rw (e, t.2) }
+  collects_refused cause e t (none, (no_leaf, (no_internal, no_own))) =
+      let is = refused_is cause in record { cells = rw (e, is.2, none, no_leaf, no_internal, no_own); output = rw (e, is.2) }
 
 -- The header reader's own answer leads on as the definition's.
-leads_on : (file out : List ℕ) (base o ow lw : ℕ) (p : HeaderAnswer) → Parses file base o ow lw p
+leads_on : (file out : List ℕ) (base o ow lw : ℕ) (p : Result BTreeV2Header Refusal) → Parses file base o ow lw p
     → on_parsed p file out ≡ on_header (parsed_at file base o ow lw) (with_base base (header_at (drop base file) o ow lw)) file out
-leads_on file out base o ow lw (header.Parsed h) is = rw (← is.answer, ← is.fields h refl)
-leads_on file out base o ow lw (header.Refused r) is = let t = refused_is r in rw (← is.answer, t.2)
+leads_on file out base o ow lw (Ok h) is = rw (← is.answer, ← is.fields h refl)
+leads_on file out base o ow lw (Err r) is = let t = refused_is r in rw (← is.answer, t.2)
 
 -- The three calls.
-module _ (q : Request) (s : Lent) (x : PlanAnswer) (h i : List ℕ) (p : HeaderAnswer) (c : Collected) (o : List ℕ) where
+module _ (q : Request) (s : Lent) (x : Result BTreeV2Plan Refusal) (h i : List ℕ) (p : Result BTreeV2Header Refusal) (c : Collected) (o : List ℕ) where
   pub answered : q.geometry.record_size < 65536 → plan_answer_of x ≡ written q s.records s.header s.image
       → h ≡ header_exit q s.records s.header s.image → i ≡ image_exit q s.records s.header s.image
       → Parses s.file s.base s.place q.geometry.offset_size q.length_size p → Collects (on_parsed p s.file s.output) c o
@@ -252,7 +241,7 @@ module _ (q : Request) (s : Lent) (x : PlanAnswer) (h i : List ℕ) (p : HeaderA
       }
 
 -- The same in a file that has a block in front: what the write left stands in the part behind it.
-pub returns_behind : (q : Request) (p : BTreeV2Plan) (s : Lent) (r : RoundTrip) (h i o : List ℕ) → Answered q s r h i o → r.written ≡ Planned p
+pub returns_behind : (q : Request) (p : BTreeV2Plan) (s : Lent) (r : RoundTrip) (h i o : List ℕ) → Answered q s r h i o → r.written ≡ Ok p
     → (block file : List ℕ) → s.file ≡ block ++ file → s.base ≡ length block → Holds q p file s.place h i
     → q.record_count * q.geometry.record_size ≤ length s.output → Complete q p s r o
 returns_behind q p s r h i o answers e block file is base holds =

@@ -1,9 +1,10 @@
 -- The figures of document 01 that are marked P, as one table: what the definitions give, beside what the document says.
-use Rattle.std.specs.Prelude.{ℕ, zero, suc, ◌+◌, List, [], ◌∷◌, length, take}
+use Rattle.std.specs.Prelude.{ℕ, zero, suc, ◌+◌, List, [], ◌∷◌, length, take, map}
 use Rattle.checksum.specs.Lookup3.{lookup3}
 use Rattle.numbers.specs.Numbers.{width}
 use Rattle.refusal.specs.Answer.{cells}
 use Rattle.node_info.specs.declared.Geometry.{Geometry}
+use Rattle.node_info.specs.declared.Level.{Level}
 use Rattle.node_info.specs.Table.{info_at}
 use Rattle.plan.specs.Tree.{Kids, last, more, Tree, size}
 use Rattle.plan.specs.Planned.{plan_depth, planned, plan_answer}
@@ -39,9 +40,9 @@ header_length ow lw =
 unfoldable pub figures : List (List ℕ × List ℕ)
 figures =
     (width 0 ∷ width 255 ∷ width 256 ∷ width 65535 ∷ width 65536 ∷ [], 1 ∷ 1 ∷ 2 ∷ 2 ∷ 3 ∷ [])
-    ∷ (take 4 (info_at (geometry 512 11 8) 3).max_nrec, 45 ∷ 24 ∷ 22 ∷ 22 ∷ [])
-    ∷ (take 4 (info_at (geometry 512 11 8) 3).cum_max_nrec, 45 ∷ 1149 ∷ 26449 ∷ 608349 ∷ [])
-    ∷ (take 3 (info_at (geometry 40 8 8) 2).cum_max_nrec, 3 ∷ 7 ∷ 15 ∷ [])
+    ∷ (take 4 (map (λ (l : Level). l.max_nrec) (info_at (geometry 512 11 8) 3).levels), 45 ∷ 24 ∷ 22 ∷ 22 ∷ [])
+    ∷ (take 4 (map (λ (l : Level). l.cum_max_nrec) (info_at (geometry 512 11 8) 3).levels), 45 ∷ 1149 ∷ 26449 ∷ 608349 ∷ [])
+    ∷ (take 3 (map (λ (l : Level). l.cum_max_nrec) (info_at (geometry 40 8 8) 2).levels), 3 ∷ 7 ∷ 15 ∷ [])
     ∷ (plan 3 8 40 8, 0 ∷ 0 ∷ 1 ∷ 1 ∷ 40 ∷ [])
     ∷ (plan 4 8 40 8, 0 ∷ 1 ∷ 3 ∷ 2 ∷ 120 ∷ [])
     ∷ (counts (plan_depth 4 (geometry 40 8 8)) (planned 4 (geometry 40 8 8)), 2 ∷ 1 ∷ 1 ∷ [])

@@ -1,10 +1,10 @@
 -- A write, the header reader and the collector, one after another: what they answer and leave, and the complete return of records as a claim on
 -- what the three calls returned. From document 01, "Collecting", and document 02, "Two".
-use Rattle.std.specs.Prelude.{◌≡◌, List, [], ◌∷◌, ℕ, ◌+◌, ◌-◌, ◌*◌, ◌≤◌, length, take, drop}
+use Rattle.std.specs.Prelude.{◌≡◌, List, [], ◌∷◌, ℕ, ◌+◌, ◌-◌, ◌*◌, ◌≤◌, length, take, drop, Result, Ok, Err}
 use Rattle.numbers.specs.Numbers.{part}
 use Rattle.refusal.specs.Answer.{accepted, refusal_of, verdict_of}
 use Rattle.plan.specs.declared.BTreeV2Plan.{BTreeV2Plan}
-use Rattle.plan.specs.declared.PlanAnswer.TheVariants.{Planned}
+use Rattle.refusal.specs.declared.Refusal.{Refusal}
 use Rattle.plan.specs.Planned.{plan_answer_of}
 use Rattle.write_checks.specs.Writing as writer
 use Rattle.format.specs.declared.Request.{Request}
@@ -12,8 +12,7 @@ use Rattle.format.specs.Bytes.{header_size, address}
 use Rattle.write_checks.specs.Writing.{header_exit, image_exit}
 use Rattle.btree_v2_collect.specs.Walk.{Run, fine, if_passed, no_counts}
 use Rattle.btree_v2_collect.specs.Collect as collector
-use Rattle.btree_v2_header.specs.declared.HeaderAnswer.{HeaderAnswer}
-use Rattle.btree_v2_header.specs.declared.HeaderAnswer.TheVariants as header
+use Rattle.btree_v2_header.specs.declared.BTreeV2Header.{BTreeV2Header}
 use Rattle.btree_v2_collect.specs.Collect.{run_cells, run_output}
 use Rattle.btree_v2_header.specs.Answers.{header_answer_of, Parses}
 use Rattle.btree_v2_collect.specs.declared.Collected.{Collected}
@@ -42,9 +41,9 @@ abbrev pub part_of : Lent → List ℕ
 part_of s = drop s.base s.file
 
 -- Collecting the tree of the header that was read; a refused header ends the reading with its refusal.
-abbrev pub on_parsed : HeaderAnswer → List ℕ → List ℕ → Run
-on_parsed (header.Parsed h) file output = collector.collected_at file h output
-on_parsed (header.Refused r) file output = if_passed (refusal_of r) no_counts output (fine no_counts output)
+abbrev pub on_parsed : Result BTreeV2Header Refusal → List ℕ → List ℕ → Run
+on_parsed (Ok h) file output = collector.collected_at file h output
+on_parsed (Err r) file output = if_passed (refusal_of r) no_counts output (fine no_counts output)
 
 -- A collecting's answer and the output at exit are those of a run.
 pub record Collects (run : Run) (c : Collected) (output_last : List ℕ) : Type 0 where
@@ -94,5 +93,5 @@ pub record Answered (q : Request) (s : Lent) (r : RoundTrip) (header_last image_
   pub image_left : image_last ≡ image_exit q s.records s.header s.image
   pub parsed : Parses s.file s.base s.place q.geometry.offset_size q.length_size r.header
   pub collected : Collects (on_parsed r.header s.file s.output) r.collected output_last
-  pub complete : (p : BTreeV2Plan) → r.written ≡ Planned p → Holds q p (part_of s) s.place header_last image_last
+  pub complete : (p : BTreeV2Plan) → r.written ≡ Ok p → Holds q p (part_of s) s.place header_last image_last
       → q.record_count * q.geometry.record_size ≤ length s.output → Complete q p s r output_last

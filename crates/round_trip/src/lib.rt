@@ -5,35 +5,32 @@
 ghost use Rattle.round_trip.specs.ThreeCalls.{lent, on_parsed, Collects, Answered};
 
 use btree_v2_collect::{Collected, Tally};
-use btree_v2_header::{BTreeV2Header, HeaderAnswer};
+use btree_v2_header::BTreeV2Header;
 use format::Request;
-use plan::PlanAnswer;
-use refusal::Verdict;
+use plan::BTreeV2Plan;
+use refusal::Refusal;
 
 // The three calls' answers. Where the header is refused, nothing is collected and the verdict is that refusal.
 #[derive(Clone, Copy)]
 pub struct RoundTrip {
-    pub written: PlanAnswer,
-    pub header: HeaderAnswer,
+    pub written: Result<BTreeV2Plan, Refusal>,
+    pub header: Result<BTreeV2Header, Refusal>,
     pub collected: Collected,
 }
 
 // Collects the tree of a header that was read, or hands its refusal on.
-fn collect_parsed(file: &[u8], parsed: HeaderAnswer, output: &mut [u8]) -> Collected
+fn collect_parsed(
+    file: &[u8],
+    parsed: Result<BTreeV2Header, Refusal>,
+    output: &mut [u8],
+) -> Collected
     ensures { Collects (on_parsed parsed file.now output.old) result output.new }
 {
     match parsed {
-        HeaderAnswer::Parsed(found) => {
-            btree_v2_collect::collect::collect_btree_v2_records(file, found, output)
-        }
-        HeaderAnswer::Refused(cause) => Collected {
-            verdict: Verdict::Refused(cause),
-            tally: Tally {
-                records: 0,
-                leaves: 0,
-                internals: 0,
-                internal_records: 0,
-            },
+        Ok(header) => btree_v2_collect::collect::collect_btree_v2_records(file, header, output),
+        Err(cause) => Collected {
+            verdict: Err(cause),
+            tally: Tally::default(),
         },
     }
 }
@@ -54,8 +51,7 @@ pub fn round_trip(
         result header.new image.new output.new }
 {
     let written = btree_v2_write::write(request, records, header, image);
-    let geometry = request.geometry;
-    let offset_size = geometry.offset_size;
+    let offset_size = request.geometry.offset_size;
     let parsed = BTreeV2Header::parse(file, base, place, offset_size, request.length_size);
     let collected = collect_parsed(file, parsed, output);
     RoundTrip {

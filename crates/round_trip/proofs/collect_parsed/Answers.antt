@@ -1,9 +1,6 @@
--- `collect_parsed`, by the header reader's answer.
-use Rattle.round_trip.proofs.Claims.{collects_parsed, collects_refused}
+-- `collect_parsed`: the header reader's refusal is handed on.
+use Rattle.round_trip.proofs.Claims.{collects_refused}
 use Rattle.round_trip.proofs.collect_parsed.Goals as goal
 
-pub returns-in-Parsed : goal.returns-in-Parsed
-returns-in-Parsed c = search collects_parsed
-
-pub returns-in-Refused : goal.returns-in-Refused
-returns-in-Refused c = search collects_refused
+pub returns-in-Err : goal.returns-in-Err
+returns-in-Err c = collects_refused _ _ _ _ c.in-Err.is _ c.default.ensures
