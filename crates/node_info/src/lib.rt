@@ -2,7 +2,7 @@
 
 #![tactic(auto)]
 
-ghost use Rattle.std.specs.Prelude.{◌≡◌, IfOk};
+ghost use Rattle.std.specs.Prelude.{◌≡◌, min, IfOk};
 ghost use Rattle.node_info.specs.Capacity.{leaf_capacity, internal_capacity};
 ghost use Rattle.node_info.specs.Table.{pointer_size, pointer_in, info_at, next_level, with_level_above, tabled, table_answer};
 
@@ -103,22 +103,34 @@ impl NodeInfo {
     // The highest level of a table.
     pub const LEVEL_LIMIT: u16 = 32;
 
+    // A table that holds nothing.
+    pub const EMPTY: NodeInfo = NodeInfo {
+        max_nrec_size: 0,
+        levels: [Level::NONE; 33],
+    };
+
     // The table of the leaf level alone, from which every table grows.
-    #[tactic(auto, unfolding(crate::specs::Table::info_at, crate::specs::Table::entries, crate::specs::Table::column_from, crate::specs::Table::level_at, crate::specs::Capacity::count_width, crate::specs::Capacity::total_width, crate::specs::Capacity::node_capacity, crate::specs::Capacity::subtree_capacity))]
     pub fn leaf_only(geometry: Geometry) -> NodeInfo
         ensures { result ≡ info_at geometry 0 }
     {
+        let mut info = NodeInfo::EMPTY;
+        info.fill_leaf(geometry);
+        info
+    }
+
+    // The same in place.
+    #[tactic(auto, unfolding(crate::specs::Table::info_at, crate::specs::Table::entries, crate::specs::Table::column_from, crate::specs::Table::level_at, crate::specs::Capacity::count_width, crate::specs::Capacity::total_width, crate::specs::Capacity::node_capacity, crate::specs::Capacity::subtree_capacity))]
+    fn fill_leaf(&mut self, geometry: Geometry)
+        ensures { self.new ≡ info_at geometry 0 }
+    {
         let max_nrec = max_records_leaf(geometry);
-        let mut levels = [Level::NONE; 33];
-        levels[0] = Level {
+        self.max_nrec_size = numbers::bytes_for_max_records(max_nrec);
+        self.levels.fill(Level::NONE);
+        self.levels[0] = Level {
             max_nrec,
             cum_max_nrec: max_nrec,
             ..Level::NONE
         };
-        NodeInfo {
-            max_nrec_size: numbers::bytes_for_max_records(max_nrec),
-            levels,
-        }
     }
 
     // The pointer to a child of this level, in a file whose addresses have `offset_size` bytes.
@@ -152,8 +164,21 @@ impl NodeInfo {
         }
     }
 
+    // Makes this the table of a tree of this depth, of the highest level's where it is deeper. In place, since a table that is returned stands
+    // on the caller's stack twice.
+    #[tactic(auto, using(crate::proofs::Growing::info_more))]
+    pub fn fill(&mut self, geometry: Geometry, depth: u16)
+        ensures { self.new ≡ info_at geometry (min depth 32) }
+    {
+        self.fill_leaf(geometry);
+        let top = depth.min(NodeInfo::LEVEL_LIMIT);
+        for level in 0..top {
+            self.add_level_above(geometry, level);
+        }
+    }
+
     // The table of a tree of this depth.
-    #[tactic(auto, using(crate::proofs::Growing::info_more, crate::proofs::Columns::table_columns), unfolding(crate::specs::Table::tabled))]
+    #[tactic(auto, using(crate::proofs::Columns::table_columns), unfolding(crate::specs::Table::tabled))]
     pub fn compute(geometry: Geometry, depth: u16) -> Result<NodeInfo, Refusal>
         ensures answer { table_answer result ≡ tabled geometry depth }
         ensures table { IfOk result (λ info. info ≡ info_at geometry depth) }
@@ -161,10 +186,8 @@ impl NodeInfo {
         if NodeInfo::LEVEL_LIMIT < depth {
             return Err(Refusal::DepthAboveLimit(depth));
         }
-        let mut info = NodeInfo::leaf_only(geometry);
-        for level in 0..depth {
-            info.add_level_above(geometry, level);
-        }
+        let mut info = NodeInfo::EMPTY;
+        info.fill(geometry, depth);
         Ok(info)
     }
 }
