@@ -1,4 +1,5 @@
 -- Demand 3 on the three calls, from the complete return of records on the definitions.
+use Rattle.std.specs.Prelude.{Result, Ok, Err, ⊤}
 use mathlib.Core.Path.{◌≡◌, refl, sym, ◌∙◌, ap}
 use mathlib.Core.Logic.{⊎_elim}
 use mathlib.Core.List.{List, [], ◌∷◌, ◌++◌}
@@ -7,14 +8,14 @@ use native.Mathlib.Nat.{zero-mul, eq-zero-or-pos}
 use native.Mathlib.Omega.{arith}
 use lib.ListN.{length, get_or, take, drop, length-take, length-drop}
 use lib.Seq.{take_at, drop_at}
+use Rattle.std.proofs.lemmas.List.{nil_from_length}
 use Rattle.numbers.specs.Numbers.{saturated, part}
 use Rattle.refusal.specs.declared.Refusal.{Refusal}
 use Rattle.refusal.specs.Answer.{Answer, accepted, refused, cells, verdict_of}
 use Rattle.refusal.proofs.Answers.{refused_is}
-use Rattle.std.specs.Prelude.{Result, Ok, Err, ⊤}
 use Rattle.plan.specs.declared.BTreeV2Plan.{BTreeV2Plan}
 use Rattle.plan.specs.Tree
-use Rattle.plan.specs.Planned.{plan_figures, plan_answer_of}
+use Rattle.plan.specs.Planned.{plan_figures, plan_numbers, plan_answer_of}
 use Rattle.plan.proofs.Checks.{Plannable, accepted_plannable}
 use Rattle.format.specs.declared.Request.{Request}
 use Rattle.format.specs.Bytes.{header_size, address}
@@ -25,7 +26,7 @@ use Rattle.btree_v2_collect.specs.Walk.{Counts, Run, fine, stopped, no_counts}
 use Rattle.btree_v2_header.specs.Header.{header_figures, header_at, with_base, carrying, parsed_at}
 use Rattle.btree_v2_header.proofs.Bases.{parsed_in_part}
 use Rattle.btree_v2_collect.proofs.Bases.{collected_in_part, collected_based}
-use Rattle.btree_v2_collect.specs.Collect.{collected, collected_at, run_cells, run_output, count_cells}
+use Rattle.btree_v2_collect.specs.Collect.{collected, collected_at, run_cells, count_cells}
 use Rattle.round_trip.specs.Return.{header_written, Returned}
 use Rattle.write_checks.proofs.Accepted.{Accepts, accepts, plan_accepted}
 use Rattle.write_checks.proofs.Fitting.{image_long}
@@ -36,10 +37,11 @@ use Rattle.btree_v2_header.specs.declared.BTreeV2Header.{BTreeV2Header}
 use Rattle.btree_v2_collect.specs.declared.Tally.{Tally}
 use Rattle.btree_v2_collect.specs.declared.Collected.{Collected}
 use Rattle.btree_v2_header.specs.Answers.{header_answer_of, Parses}
-use Rattle.btree_v2_collect.specs.Answers.{collected_cells}
+use Rattle.btree_v2_collect.specs.Collecting.{nothing_read}
 use Rattle.round_trip.specs.declared.RoundTrip.{RoundTrip}
 use Rattle.round_trip.specs.Nodes.{node_records}
 use Rattle.round_trip.specs.ThreeCalls.{Lent, part_of, on_parsed, Collects, Holds, NodesCounted, Complete, Answered}
+use Rattle.btree_v2_write.specs.Call.{Wrote}
 use Rattle.round_trip.proofs.Roots.{root_address, root_records_lem}
 
 -- Collecting by the header reader's definition: the tree of the header there, or its refusal.
@@ -74,9 +76,6 @@ cells_say (Err r) t c e =
     let z : s.0 ≡ 0 = ap (λ (l : List ℕ). get_or l 0 0) f in
     absurd (omega (arith, z, s.4))
 
-abbrev figures_of : BTreeV2Plan → List ℕ
-figures_of p = p.depth ∷ p.nodes ∷ p.leaves ∷ p.image_size ∷ []
-
 -- The first bytes of a buffer with b at its front.
 front_over : (b o : List ℕ) (n : ℕ) → length b ≡ n → take n (over b o) ≡ b
 unfolding over
@@ -88,25 +87,21 @@ record Figured (q : Request) (p : BTreeV2Plan) : Type 0 where
   nodes : p.nodes ≡ nodes_of q
   leaves : p.leaves ≡ Tree.leaves (depth_of q) (tree_of q)
 
-figured : (q : Request) (p : BTreeV2Plan) → figures_of p ≡ plan_figures q.record_count q.geometry → Figured q p
+figured : (q : Request) (p : BTreeV2Plan) → plan_numbers p ≡ plan_figures q.record_count q.geometry → Figured q p
 unfolding plan_figures nodes_of
 figured q p e = record { depth = cc; nodes = cc; leaves = cc }
 
-no_bytes : (l : List ℕ) → length l ≡ 0 → l ≡ []
-no_bytes [] e = refl
-no_bytes (x ∷ l) e = absurd (omega arith)
-
 -- An accepted write, a file that holds what it left, and an output that is long enough.
-module _ (q : Request) (p : BTreeV2Plan) (s : Lent) (ok : written q s.records s.header s.image ≡ accepted (figures_of p))
+module _ (q : Request) (p : BTreeV2Plan) (s : Lent) (ok : written q s.records s.header s.image ≡ accepted (plan_numbers p))
     (small : q.geometry.record_size < 65536) (h i : List ℕ) (left : h ≡ header_exit q s.records s.header s.image)
     (image : i ≡ image_exit q s.records s.header s.image) (holds : Holds q p (part_of s) s.place h i)
     (long : q.record_count * q.geometry.record_size ≤ length s.output) where
   accept : Accepts q s.records
-  accept = accepts q s.records s.header s.image (figures_of p) ok
+  accept = accepts q s.records s.header s.image (plan_numbers p) ok
 
-  checked : Plannable q.record_count q.geometry × (figures_of p ≡ plan_figures q.record_count q.geometry)
+  checked : Plannable q.record_count q.geometry × (plan_numbers p ≡ plan_figures q.record_count q.geometry)
   checked =
-      accepted_plannable q.record_count q.geometry (figures_of p) (plan_accepted q s.records s.header s.image (figures_of p) ok)
+      accepted_plannable q.record_count q.geometry (plan_numbers p) (plan_accepted q s.records s.header s.image (plan_numbers p) ok)
 
   same : Figured q p
   same = figured q p checked.1
@@ -117,7 +112,7 @@ module _ (q : Request) (p : BTreeV2Plan) (s : Lent) (ok : written q s.records s.
   header_stands : part (part_of s) s.place (header_size q.geometry.offset_size q.length_size) ≡ header_from q
   header_stands =
       holds.header
-      ∙ rw (left, header-put q s.records s.header s.image (figures_of p) ok)
+      ∙ rw (left, header-put q s.records s.header s.image (plan_numbers p) ok)
       (front_over (header_from q) s.header (header_size q.geometry.offset_size q.length_size) (length_header_from q))
 
   -- The base is within the file, since the header stands behind it.
@@ -133,10 +128,10 @@ module _ (q : Request) (p : BTreeV2Plan) (s : Lent) (ok : written q s.records s.
       ≡ accepted (header_figures (header_written q) ++ (s.base ∷ []))
   header_back =
       parsed_in_part s.file s.base s.place _ _ within
-      ∙ ap (carrying s.base) (returns_header q s.records s.header s.image (figures_of p) ok small (part_of s) s.place header_stands)
+      ∙ ap (carrying s.base) (returns_header q s.records s.header s.image (plan_numbers p) ok small (part_of s) s.place header_stands)
 
   header_there : header_at (part_of s) s.place q.geometry.offset_size q.length_size ≡ header_written q
-  header_there = returns_fields q s.records s.header s.image (figures_of p) ok small (part_of s) s.place header_stands
+  header_there = returns_fields q s.records s.header s.image (plan_numbers p) ok small (part_of s) s.place header_stands
 
   -- The output with the records written at its front.
   abbrev filled : List ℕ
@@ -174,10 +169,10 @@ module _ (q : Request) (p : BTreeV2Plan) (s : Lent) (ok : written q s.records s.
 
     none_complete : q.record_count ≡ 0 → Complete q p s r o
     none_complete z =
-        let empty : s.records ≡ [] = no_bytes s.records (rw (z, zero-mul) at accept.records) in
+        let empty : s.records ≡ [] = nil_from_length s.records (rw (z, zero-mul) at accept.records) in
         let same-output : s.output ≡ filled = rw (empty, z, zero-mul) in
         let ends : collected (part_of s) (header_written q) s.output ≡ fine no_counts filled =
-        returns_none q s.records s.header s.image (figures_of p) ok small (part_of s) s.place s.output z ∙ ap (fine no_counts) same-output
+        returns_none q s.records s.header s.image (plan_numbers p) ok small (part_of s) s.place s.output z ∙ ap (fine no_counts) same-output
         in
         with_counts no_counts ends (sym z) (λ some. absurd (omega arith))
 
@@ -185,12 +180,12 @@ module _ (q : Request) (p : BTreeV2Plan) (s : Lent) (ok : written q s.records s.
       image_stands : part (part_of s) q.start (nodes_of q * q.geometry.node_size) ≡ image_of q s.records
       image_stands =
           rw same.nodes at holds.nodes
-          ∙ rw (image, image_put q s.records s.header s.image (figures_of p) ok)
+          ∙ rw (image, image_put q s.records s.header s.image (plan_numbers p) ok)
           (front_over (image_of q s.records) s.image (nodes_of q * q.geometry.node_size) (image_long q s.records accept some))
 
       back : Returned q s.records (part_of s) s.place s.output
       back =
-          returns q s.records s.header s.image (figures_of p) ok small (part_of s) s.place s.output some
+          returns q s.records s.header s.image (plan_numbers p) ok small (part_of s) s.place s.output some
           (record { header = header_stands; nodes = image_stands }) long
 
       some_complete : Complete q p s r o
@@ -208,13 +203,11 @@ module _ (q : Request) (p : BTreeV2Plan) (s : Lent) (ok : written q s.records s.
     complete : Complete q p s r o
     complete = ⊎_elim none_complete some_complete (eq-zero-or-pos q.record_count)
 
--- `collect_parsed`, where the header reader refuses.
+-- `collect_parsed`, by the header reader's answer.
 module _ (file out : List ℕ) (p : Result BTreeV2Header Refusal) where
-  pub collects_refused : (cause : Refusal) → p ≡ Err cause → (t : Tally) → (t.records ≡ 0) × ((t.leaves ≡ 0) × ((t.internals ≡ 0) × (t.internal_records ≡ 0)))
-      → Collects (on_parsed p file out) (record { verdict = Err cause; tally = t }) out
+  pub collects_refused : (cause : Refusal) → p ≡ Err cause → Collects (on_parsed p file out) (nothing_read (Err cause)) out
   unfolding run_cells
-  collects_refused cause e t (none, (no_leaf, (no_internal, no_own))) =
-      let is = refused_is cause in record { cells = rw (e, is.2, none, no_leaf, no_internal, no_own); output = rw (e, is.2) }
+  collects_refused cause e = let t = refused_is cause in record { cells = rw (e, t.2); output = rw (e, t.2) }
 
 -- The header reader's own answer leads on as the definition's.
 leads_on : (file out : List ℕ) (base o ow lw : ℕ) (p : Result BTreeV2Header Refusal) → Parses file base o ow lw p
@@ -223,21 +216,21 @@ leads_on file out base o ow lw (Ok h) is = rw (← is.answer, ← is.fields h re
 leads_on file out base o ow lw (Err r) is = let t = refused_is r in rw (← is.answer, t.2)
 
 -- The three calls.
-module _ (q : Request) (s : Lent) (x : Result BTreeV2Plan Refusal) (h i : List ℕ) (p : Result BTreeV2Header Refusal) (c : Collected) (o : List ℕ) where
-  pub answered : q.geometry.record_size < 65536 → plan_answer_of x ≡ written q s.records s.header s.image
-      → h ≡ header_exit q s.records s.header s.image → i ≡ image_exit q s.records s.header s.image
+module _ {q : Request} {s : Lent} {x : Result BTreeV2Plan Refusal} {h i : List ℕ} {p : Result BTreeV2Header Refusal} {c : Collected} {o : List ℕ} where
+  pub answered : q.geometry.record_size < 65536 → Wrote q s.records s.header s.image (plan_answer_of x) h i
       → Parses s.file s.base s.place q.geometry.offset_size q.length_size p → Collects (on_parsed p s.file s.output) c o
       → Answered q s (record { written = x; header = p; collected = c }) h i o
   unfolding read_back
-  answered small wrote hl il parses collects =
+  answered small wrote parses collects =
       let run : Collects (read_back q s) c o = rw (leads_on s.file s.output s.base s.place _ _ p parses) at collects in
       record {
-        written = wrote;
-        header_left = hl;
-        image_left = il;
+        written = wrote.answered;
+        header_left = wrote.header_left;
+        image_left = wrote.image_left;
         parsed = parses;
         collected = collects;
-        complete = λ plan e holds long. complete q plan s (sym wrote ∙ ap plan_answer_of e) small h i hl il holds long _ o parses.answer run;
+        complete = λ plan e holds long.
+            complete q plan s (sym wrote.answered ∙ ap plan_answer_of e) small h i wrote.header_left wrote.image_left holds long _ o parses.answer run;
       }
 
 -- The same in a file that has a block in front: what the write left stands in the part behind it.

@@ -2,9 +2,9 @@
 -- what the three calls returned. From document 01, "Collecting", and document 02, "Two".
 use Rattle.std.specs.Prelude.{◌≡◌, List, [], ◌∷◌, ℕ, ◌+◌, ◌-◌, ◌*◌, ◌≤◌, length, take, drop, Result, Ok, Err}
 use Rattle.numbers.specs.Numbers.{part}
+use Rattle.refusal.specs.declared.Refusal.{Refusal}
 use Rattle.refusal.specs.Answer.{accepted, refusal_of, verdict_of}
 use Rattle.plan.specs.declared.BTreeV2Plan.{BTreeV2Plan}
-use Rattle.refusal.specs.declared.Refusal.{Refusal}
 use Rattle.plan.specs.Planned.{plan_answer_of}
 use Rattle.write_checks.specs.Writing as writer
 use Rattle.format.specs.declared.Request.{Request}
@@ -18,6 +18,7 @@ use Rattle.btree_v2_header.specs.Answers.{header_answer_of, Parses}
 use Rattle.btree_v2_collect.specs.declared.Collected.{Collected}
 use Rattle.btree_v2_collect.specs.declared.Tally.{Tally}
 use Rattle.btree_v2_collect.specs.Answers.{collected_cells}
+use Rattle.round_trip.specs.declared.Reading.{Reading}
 use Rattle.round_trip.specs.declared.RoundTrip.{RoundTrip}
 use Rattle.round_trip.specs.Nodes.{node_records}
 
@@ -32,9 +33,17 @@ pub record Lent : Type 0 where
   pub place : ℕ
   pub output : List ℕ
 
-abbrev pub lent : List ℕ → List ℕ → List ℕ → List ℕ → ℕ → ℕ → List ℕ → Lent
-lent records header image file base place output =
-    record { records = records; header = header; image = image; file = file; base = base; place = place; output = output }
+abbrev pub lent : List ℕ → List ℕ → List ℕ → Reading → List ℕ → Lent
+lent records header image reading output =
+    record {
+      records = records;
+      header = header;
+      image = image;
+      file = reading.file.now;
+      base = reading.base;
+      place = reading.place;
+      output = output;
+    }
 
 -- The part of the file from the base on.
 abbrev pub part_of : Lent → List ℕ

@@ -18,7 +18,16 @@ pub struct RoundTrip {
     pub collected: Collected,
 }
 
+// What is lent for reading: a file, the base from which the part begins that is read, and the place of the header in that part.
+#[derive(Clone, Copy)]
+pub struct Reading<'a> {
+    pub file: &'a [u8],
+    pub base: u64,
+    pub place: u64,
+}
+
 // Collects the tree of a header that was read, or hands its refusal on.
+#[tactic(auto, using(crate::proofs::Claims::collects_refused))]
 fn collect_parsed(
     file: &[u8],
     parsed: Result<BTreeV2Header, Refusal>,
@@ -41,16 +50,14 @@ pub fn round_trip(
     records: &[u8],
     header: &mut [u8],
     image: &mut [u8],
-    file: &[u8],
-    base: u64,
-    place: u64,
+    reading: Reading<'_>,
     output: &mut [u8],
 ) -> RoundTrip
-    ensures { Answered request
-        (lent records.now header.old image.old file.now base place output.old)
+    ensures { Answered request (lent records.now header.old image.old reading.entry output.old)
         result header.new image.new output.new }
 {
     let written = btree_v2_write::write(request, records, header, image);
+    let Reading { file, base, place } = reading;
     let offset_size = request.geometry.offset_size;
     let parsed = BTreeV2Header::parse(file, base, place, offset_size, request.length_size);
     let collected = collect_parsed(file, parsed, output);
