@@ -3,13 +3,13 @@ use Rattle.std.specs.Prelude.{Result, Ok, Err, ⊤}
 use mathlib.Core.Path.{◌≡◌, refl, sym, ap, ◌∙◌}
 use mathlib.Core.List.{List, [], ◌∷◌, ◌++◌}
 use Prim.Native.Nat.{ℕ, ◌^◌, ◌<◌}
+use Prim.Native.Nat.{◌≤◌, ◌<◌}
 use native.Mathlib.Omega.{arith}
 use mathlib.Core.Bool.{true, false}
 use Rattle.numbers.proofs.Numbers.{saturated_small}
 use Rattle.refusal.specs.declared.Refusal.{Refusal}
-use Rattle.refusal.specs.Answer.{cells, refusal_of, verdict_of}
-use Rattle.node_info.specs.declared.Geometry.{Geometry}
-use Rattle.node_info.specs.Table.{tabled}
+use Rattle.refusal.specs.Answer.{accepted, cells, verdict_of}
+use Rattle.btree_v2_internal.specs.declared.Node.{Node}
 use borrow.Author.Tests.{le-leb}
 use Rattle.refusal.proofs.Answers.{refused_is}
 use Rattle.btree_v2_collect.specs.Walk.{Run, fine, stopped, if_passed, no_counts, node_run}
@@ -73,19 +73,22 @@ module _ (file : List ℕ) (h : BTreeV2Header) (o : List ℕ) where
     pub ends_refused : (q : Refusal) → v ≡ Err q → Ends (collected file h o) (nothing_read (Err q)) o
     ends_refused q e = ends_so (Err q) o _ (collected_root file h o some ∙ rw (← tested, e, (refused_is q).2))
 
-    pub ends_walked : v ≡ Ok tt → (u : Result ⊤ Refusal) (t : Tally) (o1 : List ℕ)
-        → Walked (node_run file h.geometry (collect_tests file h.geometry) h.depth h.root_node_address h.num_records_in_root no_counts o) u t o1
-        → (r : Collected) → collected_cells r ≡ cells 3 (verdict_of u) ++ count_cells (counts_of t) → Ends (collected file h o) r o1
-    ends_walked e u t o1 walked r told = rw (collected_root file h o some, ← tested, e) (walked_ends _ u t o1 walked r told)
+    -- From the root on: the walk, told by its own end.
+    pub ends_read : v ≡ Ok tt → (root : Node) → root.address ≡ h.root_node_address → root.records ≡ h.num_records_in_root → (r : Collected) (o1 : List ℕ)
+        → Ends (node_run file h.geometry (collect_tests file h.geometry) h.depth root.address root.records no_counts o) r o1 → Ends (collected file h o) r o1
+    ends_read e root address records r o1 read = rw (collected_root file h o some, ← tested, e, ← address, ← records) read
 
--- What passed them has a table, and its records have bytes.
-module _ (g : Geometry) (depth : ℕ) (v : Result ⊤ Refusal) (tested : verdict_of v ≡ root_test g.record_size depth) (passed : v ≡ Ok tt) where
-  pub rooted : Rooted g.record_size depth
-  rooted = root_passed g.record_size depth (sym tested ∙ rw passed)
+pub ends_walked : (x : Run) (v : Result ⊤ Refusal) (t : Tally) (o : List ℕ) → Walked x v t o → (r : Collected)
+    → collected_cells r ≡ cells 3 (verdict_of v) ++ count_cells (counts_of t) → (exit : List ℕ) → exit ≡ o → Ends x r exit
+ends_walked x v t o walked r told exit same = rw same (walked_ends x v t o walked r told)
 
-  pub table_there : (q : Refusal) → refusal_of q ≡ tabled g depth → ⊥
-  unfolding tabled
-  table_there q e =
-      let is = (refused_is q).2 in
-      let given = rw (le-leb depth 32 rooted.deep, is) at e in
-      let z : ◌≡◌ {A = ℕ} 0 1 = cc in absurd (omega arith)
+-- What passed the tests before the root.
+module _ (rs depth : ℕ) (v : Result ⊤ Refusal) (tested : verdict_of v ≡ root_test rs depth) (passed : v ≡ Ok tt) where
+  rooted : Rooted rs depth
+  rooted = root_passed rs depth (sym tested ∙ ap verdict_of passed)
+
+  pub root_sized : 0 < rs
+  root_sized = omega (arith, rooted.sized)
+
+  pub root_deep : depth ≤ 32
+  root_deep = rooted.deep

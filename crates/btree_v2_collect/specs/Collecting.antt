@@ -66,11 +66,6 @@ pub record ChildrenLeft (file : List ℕ) (g : Geometry) (depth : ℕ) (x : Inte
   pub some : i ≤ k
   pub among : k ≤ x.node.records
 
--- A header whose root is read: none of the tests ends the call that need no file.
-pub record RootRead (h : BTreeV2Header) : Type 0 where
-  pub some : no_records h.total_records h.num_records_in_root ≡ false
-  pub passes : root_test h.geometry.record_size h.depth ≡ accepted []
-
 -- The walk x ends as the answer v, the tally t and the output o say, all counts saturated; and the records put out are within the output.
 pub record Walked (x : Run) (v : Result ⊤ Refusal) (t : Tally) (o : List ℕ) : Type 0 where
   pub ends : saturated_run (run_of v t o) ≡ saturated_run x

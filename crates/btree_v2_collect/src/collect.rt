@@ -189,6 +189,25 @@ fn ended(verdict: Result<(), Refusal>, tally: Tally) -> Collected
     Collected { verdict, tally }
 }
 
+impl Tree<'_> {
+    ghost use Rattle.btree_v2_collect.specs.Collecting.{node_walk};
+    ghost use Rattle.btree_v2_collect.specs.Walk.{no_counts};
+
+    // Collects from the root on.
+    fn collect(&self, root: Node, output: &mut [u8]) -> Collected
+        ensures { Ends (node_walk self.now.file.now self.now.geometry self.now.depth root.address root.records no_counts output.old) result output.new }
+    {
+        let tree = *self;
+        let mut walk = Walk {
+            tree,
+            output,
+            tally: Tally::default(),
+        };
+        let verdict = walk.collect_node(tree.depth, root);
+        ended(verdict, walk.tally)
+    }
+}
+
 // Collects the records of the header's tree, from its root on, or there are none; refused where its base or its figures are.
 fn collect_tree(
     file: &[u8],
@@ -202,7 +221,8 @@ fn collect_tree(
         return Ok(ended(Ok(()), Tally::default()));
     }
     read_checks::check_root(header.geometry.record_size, header.depth)?;
-    let info = NodeInfo::compute(header.geometry, header.depth)?;
+    let mut info = NodeInfo::EMPTY;
+    info.fill(header.geometry, header.depth);
     let tree = Tree {
         file: part,
         geometry: header.geometry,
@@ -213,13 +233,7 @@ fn collect_tree(
         address: header.root_node_address,
         records: header.num_records_in_root,
     };
-    let mut walk = Walk {
-        tree,
-        output,
-        tally: Tally::default(),
-    };
-    let verdict = walk.collect_node(header.depth, root);
-    Ok(ended(verdict, walk.tally))
+    Ok(tree.collect(root, output))
 }
 
 // Collects the records of the tree that a header describes into the front of the output. Its addresses count from the header's base on.

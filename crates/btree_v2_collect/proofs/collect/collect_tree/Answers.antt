@@ -2,10 +2,11 @@
 use Rattle.std.proofs.lemmas.Result.{err_from_is_err_and}
 use mathlib.Core.Path.{◌≡◌, refl, sym, ◌∙◌}
 use borrow.Author.Rules.{rules}
+use native.Mathlib.Nat.{min-eq_left}
 use native.Mathlib.Omega.{arith}
 use Rattle.std.specs.Prelude.{Ok, Err}
 use Rattle.btree_v2_collect.specs.Collecting.{nothing_read, no_tally}
-use Rattle.btree_v2_collect.proofs.Calls.{ends_empty, ends_refused, ends_walked, rooted, table_there}
+use Rattle.btree_v2_collect.proofs.Calls.{ends_empty, ends_refused, ends_read, root_sized, root_deep}
 use Rattle.btree_v2_collect.proofs.Bases.{ends_beyond, ends_part}
 use Rattle.btree_v2_collect.proofs.collect.collect_tree.Goals as goal
 
@@ -27,18 +28,13 @@ returns-in_err-check_root c =
     rw (given.1, given.2)
     (ends_part _ _ _ within.0 _ within.1 (nothing_read (Err _)) _ _ refl (ends_refused _ _ _ (sym c.is_empty.ensures ∙ c.if-is_empty.false) _ c.check_root.ensures _ c.in_err-check_root.was))
 
-pub returns-in_err-info : goal.returns-in_err-info
-returns-in_err-info c = absurd (table_there _ _ _ c.check_root.ensures c.in_ok-check_root.was _ c.in_err-info.ensures.answer)
-
 pub invariant_of-tree : goal.invariant_of-tree
 invariant_of-tree c =
-    let root = rooted c.args.header.now.geometry _ _ c.check_root.ensures c.in_ok-check_root.was in
-    record { sized = omega (arith, root.sized); deep = root.deep; table = c.in_ok-info.ensures.table }
+    let deep = root_deep _ _ _ c.check_root.ensures c.in_ok-check_root.was in
+    record { sized = root_sized _ _ _ c.check_root.ensures c.in_ok-check_root.was; deep = deep; table = rw (min-eq_left deep) at c.fill.ensures }
 
 pub returns : goal.returns
 returns c =
     let within = c.in_ok-part.ensures.cases in
-    let walk = c.collect_node-verdict.new.self in
-    let zero : c.default-2.result ≡ no_tally = search rules in
-    let read = ends_walked _ _ _ (sym c.is_empty.ensures ∙ c.if-is_empty.false) _ c.check_root.ensures c.in_ok-check_root.was _ walk.tally walk.output.now (rw zero at c.collect_node-verdict.ensures.walked) _ c.ended-2.ensures.cells in
-    ends_part _ _ _ within.0 _ within.1 _ _ _ (search rules) read
+    let read = ends_read _ _ _ (sym c.is_empty.ensures ∙ c.if-is_empty.false) _ c.check_root.ensures c.in_ok-check_root.was _ refl refl _ _ c.collect.ensures in
+    ends_part _ _ _ within.0 _ within.1 _ _ _ refl read
