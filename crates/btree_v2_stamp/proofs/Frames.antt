@@ -65,7 +65,7 @@ module _ (o s : List ℕ) (type k : ℕ) where
 pub ruleset fronts = (front_short, front_none, front_signed, front_versioned, front_whole)
 
 -- A part that was lent, back at its place.
-mid_stored : (o : List ℕ) (a k : ℕ) (b : List ℕ) → k ≡ length b → put_mid a k o b ≡ stored o a b
+pub mid_stored : (o : List ℕ) (a k : ℕ) (b : List ℕ) → k ≡ length b → put_mid a k o b ≡ stored o a b
 mid_stored o a k b e = rw (stored_is, e, drop-drop)
 
 -- `stamp`: no room; or as many fields as the budget says, after what is there.

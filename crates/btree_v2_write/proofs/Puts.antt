@@ -3,22 +3,22 @@ use mathlib.Core.Path.{◌≡◌, refl, ap, ◌∙◌}
 use Rattle.std.specs.Borrow.{MutBor}
 use mathlib.Core.List.{List, [], ◌∷◌, ◌++◌}
 use Prim.Native.Nat.{ℕ, zero, suc, ◌+◌, ◌-◌, ◌*◌, ◌^◌, ◌≤◌, ◌<◌, min}
-use native.Mathlib.Nat.{add-zero, zero-add, sub-zero, mul-le-mul_right, zero-min, min-zero, suc-min-suc}
+use native.Mathlib.Nat.{add-sub_cancel_left, add-zero, zero-add, sub-zero, mul-le-mul_right, zero-min, min-zero, suc-min-suc}
 use native.Mathlib.Omega.{arith}
 use mir.Val.{Fits}
 use mir.Syntax.{w64}
 use lib.ListN.{length, take, length-append}
+use borrow.Rule.Slice.PartMut.{put_mid}
 use lib.Seq.{take-nil, take_all}
 use Rattle.numbers.specs.Numbers.{le, part}
 use Rattle.numbers.specs.Places.{put, joined, filled_to}
 use Rattle.numbers.proofs.Lists.{stored_nil, length_part, put_fits}
-use Rattle.numbers.proofs.Copying.{part_put}
 use Rattle.numbers.proofs.Numbers.{le_length}
 use Rattle.numbers.proofs.Filling.{joined_append, joined_one, filled_turn, length_filled, filled_stored}
 use Rattle.format.specs.Fields.{front_fields, with_end, record_fields}
 use Rattle.format.proofs.Fields.{records_joined, records_many}
 use Rattle.btree_v2_stamp.specs.Stamped.{fronted, stamped}
-use Rattle.btree_v2_stamp.proofs.Frames.{fronted_is, node_stamped}
+use Rattle.btree_v2_stamp.proofs.Frames.{fronted_is, mid_stored, node_stamped}
 use Rattle.btree_v2_write.specs.declared.filling.Filling.{Filling}
 use Rattle.btree_v2_write.specs.Filled.{Filled, Passed, start}
 
@@ -101,13 +101,16 @@ module _ (p : Filling) (recs : List ℕ) (size n r m : ℕ) (fewer : m ≡ min n
       records_here = let less : m ≤ n = omega arith in omega (arith, mul-le-mul_right size less)
 
       pub records_put_lem : {d to : Filling} → Passed d n (n * size) to → d.node.ghost_name ≡ p.node.ghost_name → d.at ≡ p.at → d.left ≡ p.left
-          → d.node.now ≡ put p.node.now p.at (part recs (r * size) (r * size + m * size - r * size)) → Filled p (record_fields size recs n r) to
-      records_put_lem {d} {to} go name at left e =
+          → {c : List ℕ} → c ≡ part recs (r * size) (r * size + m * size - r * size) → d.node.now ≡ put_mid p.at (p.at + m * size - p.at) p.node.now c
+          → Filled p (record_fields size recs n r) to
+      records_put_lem {d} {to} go name at left {c} copied e =
           let long : length (joined (record_fields size recs n r)) ≡ n * size =
           rw records_joined (length_part recs (r * size) (n * size) (omega arith)) in
+          let is : c ≡ part recs (r * size) (m * size) = rw add-sub_cancel_left at copied in
+          let whole : p.at + m * size - p.at ≡ length c = rw (is, add-sub_cancel_left, length_part recs (r * size) (m * size) records_some) in
           record {
             same = ap (λ (m : MutBor (List ℕ)). m.ghost_name) go.same ∙ name;
-            bytes = rw (go.same, records_take, records_joined) (part_put p.node.now recs d.node.now p.at (r * size) (m * size) records_here records_some e);
+            bytes = rw (go.same, e, mid_stored p.node.now p.at (p.at + m * size - p.at) c whole, is, records_take, records_joined);
             place = rw long (go.place ∙ ap (λ k. k + n * size) at);
             left = rw records_many (go.left ∙ ap (λ k. k - n) left);
           }
