@@ -3,20 +3,16 @@ use mathlib.Core.Path.{◌≡◌, refl, sym, ◌∙◌}
 use mathlib.Core.Bool.{Bool, true, false}
 use mathlib.Core.List.{List, []}
 use Prim.Native.Nat.{ℕ, ◌≤◌, ◌<◌}
-use native.Mathlib.Omega.{arith}
 use lib.ListN.{length, drop}
-use borrow.Author.Tests.{le-leb}
 use Rattle.std.specs.Prelude.{Option, None, Result, Ok, Err}
 use Rattle.refusal.specs.Answer.{accepted, refusal_of}
 use Rattle.refusal.specs.declared.Refusal.{Refusal}
 use Rattle.refusal.specs.declared.Refusal.TheVariants.{InvalidKeyField, BaseBeyondFile}
 use Rattle.refusal.proofs.Answers.{refused_is}
-use Rattle.node_info.specs.Table.{tabled}
 use Rattle.field.specs.declared.Field.{Field}
 use Rattle.field.specs.Field.{number_field}
 use Rattle.read_checks.specs.Tests.{no_records, root_test}
 use Rattle.read_checks.proofs.Base.{on_part_within, on_part_beyond}
-use Rattle.read_checks.proofs.Root.{root_passed}
 use Rattle.btree_v2_header.specs.declared.BTreeV2Header.{BTreeV2Header}
 use Rattle.btree_v2_collect.specs.Collect.{collect_tests}
 use Rattle.btree_v2_find.specs.Find.{last_with, Descent, ended, on_passed, descent, key_test, descended, place_found, find_cells, found_at}
@@ -89,14 +85,3 @@ module _ (file : List ℕ) (h : BTreeV2Header) (f : Field) (x k : ℕ) (unread :
         pub key_refused : false ≡ number_field f h.geometry.record_size → Answers (Err InvalidKeyField)
         unfolding key_test
         key_refused has = ends (Err InvalidKeyField) (ended (refusal_of InvalidKeyField)) (opens ∙ rw (← passes, ← has)) (ends_refused part f x InvalidKeyField)
-
-        -- The depth has passed, so the table is not refused.
-        deep : h.depth ≤ 32
-        deep = (root_passed h.geometry.record_size h.depth (sym passes)).deep
-
-        pub table_made : (q : Refusal) → refusal_of q ≡ tabled h.geometry h.depth → (r : Result (Option ℕ) Refusal) → Answers r
-        unfolding tabled
-        table_made q e r =
-            let made = rw (le-leb h.depth 32 deep, (refused_is q).2) at e in
-            let apart : ◌≡◌ {A = ℕ} 0 1 = cc in
-            absurd (omega arith)

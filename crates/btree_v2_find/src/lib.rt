@@ -141,7 +141,8 @@ fn seek(
     if !key.is_in(geometry.record_size) {
         return Err(Refusal::InvalidKeyField);
     }
-    let info = NodeInfo::compute(geometry, header.depth)?;
+    let mut info = NodeInfo::EMPTY;
+    info.fill(geometry, header.depth);
     let search = Search {
         file: part,
         geometry,

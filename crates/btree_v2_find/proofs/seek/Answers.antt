@@ -1,8 +1,9 @@
 -- `seek`: the refusals before the root, and the descent.
 use Rattle.std.proofs.Common.{sym}
+use native.Mathlib.Nat.{min-eq_left}
 use Rattle.read_checks.proofs.Root.{root_passed}
 use Rattle.std.proofs.lemmas.Result.{err_from_is_err_and}
-use Rattle.btree_v2_find.proofs.Calls.{base_refused, found_nothing, root_refused, key_refused, table_made}
+use Rattle.btree_v2_find.proofs.Calls.{base_refused, found_nothing, root_refused, key_refused}
 use Rattle.btree_v2_find.proofs.seek.Goals as goal
 
 pub returns-in_err-part : goal.returns-in_err-part
@@ -27,10 +28,8 @@ returns-then-not-is_in c =
     let within = c.in_ok-part.ensures.cases in
     key_refused _ _ _ _ _ c.requires _ within.0 within.1 c.if-is_empty.ensures c.in_ok-check_root.ensures c.if-not-is_in.ensures
 
-pub returns-in_err-info : goal.returns-in_err-info
-returns-in_err-info c =
-    let within = c.in_ok-part.ensures.cases in
-    table_made _ _ _ _ _ c.requires _ within.0 within.1 c.if-is_empty.ensures c.in_ok-check_root.ensures _ c.in_err-info.ensures.answer _
+pub descend-requires-clause-table : goal.descend-requires-clause-table
+descend-requires-clause-table c = rw (min-eq_left (root_passed _ _ (sym c.in_ok-check_root.ensures)).deep) at c.fill.ensures
 
 pub descend-requires-clause-deep : goal.descend-requires-clause-deep
 descend-requires-clause-deep c = (root_passed _ _ (sym c.in_ok-check_root.ensures)).deep
