@@ -44,8 +44,7 @@ pub extern "C" fn btree_v2_node_info(
         record_size,
         offset_size,
     };
-    let computed = NodeInfo::compute(geometry, depth);
-    answer_columns::put_node_info(answer, &computed);
+    answer_columns::put_node_info(answer, &NodeInfo::compute(geometry, depth));
 }
 
 // The plan: depth, nodes, leaves, image size.
