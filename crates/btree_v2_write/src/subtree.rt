@@ -40,6 +40,7 @@ impl Writing<'_> {
         let large = self.write_subtree(image, under, node::share(&distributed, 0), at);
         let mut small = large;
         let mut next = at.after(&large);
+        // Half open: a loop that ends at `..=` is left in two ways, each with its proof of what follows.
         for i in 1..distributed.kept + 1 {
             small = self.write_subtree(image, under, node::share(&distributed, i), next);
             next = next.after(&small);
