@@ -1,5 +1,6 @@
 // The calls as C functions, on numbers and slices. Each fills its whole answer, an array of numbers behind one pointer: the refusal's
 // number, 0 where the call is accepted, then the figures or the refusal's values, then zeros.
+// Their parameters, one by one, and their pairs, with a base and without, are the C interface's.
 
 #![tactic(auto)]
 

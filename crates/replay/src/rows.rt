@@ -67,7 +67,8 @@ pub(crate) fn next_part<'a>(bytes: &mut &'a [u8], most: usize, stored: u64) -> &
     part
 }
 
-// The input that belongs to a number n: byte i is (7 * i + 13 * n + 1) mod 256.
+// The input that belongs to a number n: byte i is (7 * i + 13 * n + 1) mod 256. A loop over the places: of `array::from_fn` and of
+// `iter_mut().enumerate()` what the array holds was not proved.
 pub(crate) fn input<const N: usize>(n: u64) -> [u8; N]
     ensures { result ≡ bytes_of n N }
 {
