@@ -40,8 +40,8 @@ impl Internal {
     // Its tests.
     #[tactic(auto, unfolding(crate::specs::Internal::internal_test))]
     pub fn check(&self, file: &[u8]) -> Result<(), Refusal>
-        ensures { verdict_of result ≡ internal_test file.now self.now.record_size self.now.pointer.offset_size
-            (pointer_size self.now.pointer) self.now.node.address self.now.node.records }
+        ensures { let x = self.now in verdict_of result ≡ internal_test file.now x.record_size x.pointer.offset_size
+            (pointer_size x.pointer) x.node.address x.node.records }
     {
         read_checks::check_front(file, self.node.address, b"BTIN")?;
         self.check_body(file)
@@ -50,8 +50,8 @@ impl Internal {
     // The tests after those of the front: the records and the pointers are there, and offsets have one of the sizes.
     #[tactic(auto, unfolding(crate::specs::Internal::internal_body))]
     pub fn check_body(&self, file: &[u8]) -> Result<(), Refusal>
-        ensures { verdict_of result ≡ internal_body file.now self.now.record_size self.now.pointer.offset_size
-            (pointer_size self.now.pointer) self.now.node.address self.now.node.records }
+        ensures { let x = self.now in verdict_of result ≡ internal_body file.now x.record_size x.pointer.offset_size
+            (pointer_size x.pointer) x.node.address x.node.records }
     {
         let rest = numbers::part(file, self.node.address, file.len() as u64);
         let records_end = read_checks::records_end(self.record_size, self.node.records);
@@ -67,7 +67,7 @@ impl Internal {
 
     // The bytes of its records, or as many as there are.
     pub fn records<'a>(&self, file: &'a [u8]) -> &'a [u8]
-        ensures { result.now ≡ part file.now (self.now.node.address + prefix_size) (self.now.node.records * self.now.record_size) }
+        ensures { let x = self.now in result.now ≡ part file.now (x.node.address + prefix_size) (x.node.records * x.record_size) }
     {
         read_checks::records_of(file, self.node.address, self.record_size, self.node.records)
     }
