@@ -8,9 +8,8 @@ use native.Mathlib.Omega.{arith}
 use mathlib.Core.Bool.{true, false}
 use Rattle.numbers.proofs.Numbers.{saturated_small}
 use Rattle.refusal.specs.declared.Refusal.{Refusal}
-use Rattle.refusal.specs.Answer.{accepted, cells, verdict_of}
+use Rattle.refusal.specs.Answer.{cells, verdict_of}
 use Rattle.btree_v2_internal.specs.declared.Node.{Node}
-use borrow.Author.Tests.{le-leb}
 use Rattle.refusal.proofs.Answers.{refused_is}
 use Rattle.btree_v2_collect.specs.Walk.{Run, fine, stopped, if_passed, no_counts, node_run}
 use Rattle.btree_v2_collect.specs.Collect.{collected, collect_tests, count_cells, run_cells, run_output}
