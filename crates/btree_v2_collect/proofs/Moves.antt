@@ -1,7 +1,5 @@
 -- The steps of the walk's state, one after another.
 use Rattle.std.specs.Prelude.{Result, ⊤, Ok, Err}
-use Rattle.std.specs.Result.{IsErrAnd}
-use Rattle.std.proofs.lemmas.Result.{err_from_is_err_and}
 use mathlib.Core.List.{List}
 use mathlib.Core.Path.{◌≡◌, ◌∙◌, subst}
 use Prim.Native.Nat.{ℕ, ◌+◌, ◌-◌, ◌≤◌, ◌<◌}
@@ -67,10 +65,6 @@ module _ (s0 s1 : Walk) (d a n i j k : ℕ) (low : i ≤ j) (high : j < k) (v : 
 -- An accepted answer, taken apart.
 pub walks_accepted : (s0 s1 : Walk) (step : Step) (v : Result ⊤ Refusal) → v ≡ Ok tt → Walks s0 step v s1 → Walks s0 step (Ok tt) s1
 walks_accepted s0 s1 step v e h = rw e at h
-
--- A refused one, handed up by `?`.
-pub walks_refused : (s0 s1 : Walk) (step : Step) (r : Result ⊤ Refusal) (q : Refusal) → IsErrAnd r (λ y. y ≡ q) → Walks s0 step (Err q) s1 → Walks s0 step r s1
-walks_refused s0 s1 step r q h walks = let p = err_from_is_err_and r h in rw (p.1, p.2) walks
 
 -- One child, and nothing after it, by what its pointer says.
 module _ (file : List ℕ) (g : Geometry) (d : ℕ) (x : Internal) (is : x ≡ internal_at g d x.node) (there : NodeThere file g x.node.address x.node.records)

@@ -17,7 +17,9 @@ returns-in_err-part c =
 pub returns-then-is_empty : goal.returns-then-is_empty
 returns-then-is_empty c =
     let within = c.in_ok-part.ensures.cases in
-    let zero : c.default.result ≡ no_tally = search rules in rw (c.ended.ensures.is, zero) (ends_part _ _ _ within.0 _ within.1 (nothing_read (Ok tt)) _ _ refl (ends_empty _ _ _ (sym c.is_empty.ensures ∙ c.if-is_empty.true)))
+    let zero : c.default.result ≡ no_tally = search rules in
+    rw (c.ended.ensures.is, zero)
+    (ends_part _ _ _ within.0 _ within.1 (nothing_read (Ok tt)) _ _ refl (ends_empty _ _ _ (sym c.is_empty.ensures ∙ c.if-is_empty.true)))
 
 pub returns-in_err-check_root : goal.returns-in_err-check_root
 returns-in_err-check_root c =
