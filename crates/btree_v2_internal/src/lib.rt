@@ -84,10 +84,9 @@ impl Internal {
         let at = self.node.address.saturating_add(before);
         let next = at.saturating_add(pointer.offset_size as u64);
         let address = numbers::read_le(file, at as usize, pointer.offset_size as usize);
-        let records = numbers::read_le(file, next as usize, pointer.count_size as usize);
-        Node {
-            address,
-            records: (records % 65536) as u16,
-        }
+        // the last two bytes above the first two count for nothing: the count is the number modulo 65536
+        let count_size = (pointer.count_size as usize).min(2);
+        let records = numbers::read_le(file, next as usize, count_size) as u16;
+        Node { address, records }
     }
 }
