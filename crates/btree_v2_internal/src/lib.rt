@@ -73,7 +73,7 @@ impl Internal {
     }
 
     // The child that pointer i leads to. A place that is saturated at 2^64 - 1 is past the end of every file.
-    #[tactic(auto, using(crate::proofs::Nodes::address_is, crate::proofs::Nodes::records_is))]
+    #[tactic(auto, using(crate::proofs::Nodes::address_is, crate::proofs::Nodes::records_is, crate::proofs::Nodes::count_fits))]
     pub fn child(&self, file: &[u8], i: u16) -> Node
         ensures address { result.address ≡ address_at file.now self.now i }
         ensures records { result.records ≡ records_at file.now self.now i }
@@ -84,7 +84,7 @@ impl Internal {
         let at = self.node.address.saturating_add(before);
         let next = at.saturating_add(pointer.offset_size as u64);
         let address = numbers::read_le(file, at as usize, pointer.offset_size as usize);
-        // the last two bytes above the first two count for nothing: the count is the number modulo 65536
+        // a count is taken modulo 65,536: its first two bytes hold that
         let count_size = (pointer.count_size as usize).min(2);
         let records = numbers::read_le(file, next as usize, count_size) as u16;
         Node { address, records }
