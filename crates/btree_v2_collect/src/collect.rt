@@ -51,7 +51,8 @@ struct Walk<'a> {
     ghost within: { tally.records * tree.geometry.record_size ≤ length output.now },
 }
 
-// How many of n records of this size fit into `room` bytes.
+// How many of n records of this size fit into `room` bytes. The division, (room / each).min(all), is left out where all fit: this is asked for
+// each node and each record between children.
 fn fitting(n: u16, size: u16, room: usize) -> usize
     requires { 0 < size }
     ensures { (result ≤ n) × (result * size ≤ room) × (result < n → room < (result + 1) * size) }
