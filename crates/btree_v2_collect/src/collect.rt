@@ -34,11 +34,7 @@ impl Tree<'_> {
         requires { under ≤ self.now.depth }
         ensures { result ≡ internal_at self.now.geometry under node }
     {
-        Internal {
-            node,
-            record_size: self.geometry.record_size,
-            pointer: self.info.pointer_to(self.geometry.offset_size, under),
-        }
+        Internal::new(node, self.geometry, self.info, under)
     }
 }
 
@@ -93,6 +89,7 @@ impl Walk<'_> {
     fn collect_leaf(&mut self, node: Node) -> Result<(), Refusal>
         ensures { Walks self.old (node_walk self.old.tree.file.now self.old.tree.geometry 0 node.address node.records) result self.new }
     {
+        // btree_v2_leaf does not know the pointers' `Node`
         let leaf = Leaf {
             address: node.address,
             count: node.records,

@@ -6,11 +6,11 @@ ghost use Rattle.std.specs.Prelude.{◌≡◌, ◌+◌, ◌*◌, ◌^◌, ◌<�
 ghost use Rattle.numbers.specs.Numbers.{part};
 ghost use Rattle.refusal.specs.Answer.{verdict_of};
 ghost use Rattle.format.specs.Bytes.{prefix_size};
-ghost use Rattle.node_info.specs.Table.{pointer_size};
+ghost use Rattle.node_info.specs.Table.{pointer_size, pointer_in};
 ghost use Rattle.btree_v2_internal.specs.Internal.{internal_body, internal_test};
 ghost use Rattle.btree_v2_internal.specs.Pointers.{address_at, records_at};
 
-use node_info::ChildPointer;
+use node_info::{ChildPointer, Geometry, NodeInfo};
 use refusal::Refusal;
 
 // A node as the pointer to it has it.
@@ -37,6 +37,21 @@ fn pointers_size(pointer: ChildPointer, count: u32) -> u64
 }
 
 impl Internal {
+    // This node of a tree with these sizes and this table, where its children have level `under`.
+    pub fn new(node: Node, geometry: Geometry, info: &NodeInfo, under: u16) -> Internal
+        ensures { result ≡ record {
+          node = node;
+          record_size = geometry.record_size;
+          pointer = pointer_in info.now geometry.offset_size under;
+        } }
+    {
+        Internal {
+            node,
+            record_size: geometry.record_size,
+            pointer: info.pointer_to(geometry.offset_size, under),
+        }
+    }
+
     // Its tests.
     #[tactic(auto, unfolding(crate::specs::Internal::internal_test))]
     pub fn check(&self, file: &[u8]) -> Result<(), Refusal>
