@@ -63,7 +63,8 @@ pub fn bytes_for_max_records(max_nrec: u64) -> u8
     bits.div_ceil(8).max(1) as u8
 }
 
-// Whether offsets or lengths may have this size. Each caller has its own refusal, and a call for it is no shorter.
+// Whether offsets or lengths may have this size. Each of the two has its own refusal, and functions that give them make the callers no shorter
+// all in all.
 #[tactic(auto, unfolding(crate::specs::Numbers::field_size))]
 pub fn is_field_size(size: u8) -> bool
     ensures { result ≡ field_size size }
