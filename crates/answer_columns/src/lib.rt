@@ -22,7 +22,8 @@ pub fn put_refusal(answer: &mut [u64], cause: Refusal)
     answer[..count].copy_from_slice(&told[..count]);
 }
 
-// The table's columns: level by level, an entry into each.
+// The table's columns: level by level, an entry into each. A slice, and not an array of 99: the caller would get that as an Option, and have to
+// say what it does without.
 #[tactic(auto, using(crate::proofs::Table::columns_whole))]
 fn put_columns(columns: &mut [u64], levels: &[Level; 33])
     requires { length columns.old ≡ 99 }

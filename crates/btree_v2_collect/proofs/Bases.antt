@@ -81,8 +81,3 @@ module _ (file : List ℕ) (h : BTreeV2Header) (out : List ℕ) where
   pub ends_part : h.base ≤ length file → (part : List ℕ) → part ≡ drop h.base file → (r : Collected) (o exit : List ℕ) → exit ≡ o → Ends (collected part h out) r o
       → Ends (collected_at file h out) r exit
   ends_part within part e r o exit same read = rw (collected_in_part h out file within, same) (rw e at read)
-
--- With base 0 the call ends as before.
-pub ends_whole : (file : List ℕ) (h : BTreeV2Header) (out : List ℕ) (r : Collected) (exit : List ℕ) → h.base ≡ 0
-    → Ends (collected_at file h out) r exit → Ends (collected file h out) r exit
-ends_whole file h out r exit e ends = rw (collected_whole h out file e) at ends

@@ -8,9 +8,8 @@ use native.Mathlib.Omega.{arith}
 use mathlib.Core.Bool.{true, false}
 use Rattle.numbers.proofs.Numbers.{saturated_small}
 use Rattle.refusal.specs.declared.Refusal.{Refusal}
-use Rattle.refusal.specs.Answer.{accepted, cells, verdict_of}
+use Rattle.refusal.specs.Answer.{cells, verdict_of}
 use Rattle.btree_v2_internal.specs.declared.Node.{Node}
-use borrow.Author.Tests.{le-leb}
 use Rattle.refusal.proofs.Answers.{refused_is}
 use Rattle.btree_v2_collect.specs.Walk.{Run, fine, stopped, if_passed, no_counts, node_run}
 use Rattle.btree_v2_collect.specs.Collect.{collected, collect_tests, count_cells, run_cells, run_output}
@@ -50,11 +49,11 @@ pub count_cells_of : (t : Tally) → t.records < 2 ^ 64 → t.leaves < 2 ^ 64 �
 count_cells_of t records leaves internals internal_records =
     rw (saturated_small _ records, saturated_small _ leaves, saturated_small _ internals, saturated_small _ internal_records)
 
-walked_ends : (x : Run) (v : Result ⊤ Refusal) (t : Tally) (o : List ℕ) → Walked x v t o → (r : Collected) → collected_cells r ≡ cells 3 (verdict_of v) ++ count_cells (counts_of t)
-    → Ends x r o
-walked_ends x v t o walked r told = (
+pub ends_walked : (x : Run) (v : Result ⊤ Refusal) (t : Tally) (o : List ℕ) → Walked x v t o → (r : Collected)
+    → collected_cells r ≡ cells 3 (verdict_of v) ++ count_cells (counts_of t) → (exit : List ℕ) → exit ≡ o → Ends x r exit
+ends_walked x v t o walked r told exit same = (
   told ∙ sym (sym (cells_saturated x) ∙ ap run_cells (sym walked.ends) ∙ cells_saturated (run_of v t o) ∙ cells_of v t o),
-  sym (sym (output_saturated x) ∙ ap run_output (sym walked.ends) ∙ output_saturated (run_of v t o) ∙ output_of v t o),
+  same ∙ sym (sym (output_saturated x) ∙ ap run_output (sym walked.ends) ∙ output_saturated (run_of v t o) ∙ output_of v t o),
 )
 
 -- Nothing is read, and the verdict is all there is to tell.
@@ -77,10 +76,6 @@ module _ (file : List ℕ) (h : BTreeV2Header) (o : List ℕ) where
     pub ends_read : v ≡ Ok tt → (root : Node) → root.address ≡ h.root_node_address → root.records ≡ h.num_records_in_root → (r : Collected) (o1 : List ℕ)
         → Ends (node_run file h.geometry (collect_tests file h.geometry) h.depth root.address root.records no_counts o) r o1 → Ends (collected file h o) r o1
     ends_read e root address records r o1 read = rw (collected_root file h o some, ← tested, e, ← address, ← records) read
-
-pub ends_walked : (x : Run) (v : Result ⊤ Refusal) (t : Tally) (o : List ℕ) → Walked x v t o → (r : Collected)
-    → collected_cells r ≡ cells 3 (verdict_of v) ++ count_cells (counts_of t) → (exit : List ℕ) → exit ≡ o → Ends x r exit
-ends_walked x v t o walked r told exit same = rw same (walked_ends x v t o walked r told)
 
 -- What passed the tests before the root.
 module _ (rs depth : ℕ) (v : Result ⊤ Refusal) (tested : verdict_of v ≡ root_test rs depth) (passed : v ≡ Ok tt) where

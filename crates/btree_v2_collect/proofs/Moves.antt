@@ -1,17 +1,22 @@
 -- The steps of the walk's state, one after another.
 use Rattle.std.specs.Prelude.{Result, ⊤, Ok, Err}
-use Rattle.std.specs.Result.{IsErrAnd}
-use Rattle.std.proofs.lemmas.Result.{err_from_is_err_and}
+use mathlib.Core.List.{List}
 use mathlib.Core.Path.{◌≡◌, ◌∙◌, subst}
 use Prim.Native.Nat.{ℕ, ◌+◌, ◌-◌, ◌≤◌, ◌<◌}
 use Rattle.refusal.specs.declared.Refusal.{Refusal}
 use Rattle.btree_v2_collect.specs.declared.collect.Tree.{Tree}
 use Rattle.btree_v2_collect.specs.declared.collect.Walk.{Walk}
-use Rattle.btree_v2_collect.specs.Walk.{own_record_run}
-use Rattle.btree_v2_collect.specs.Collecting.{counts_of, Walked, children_walk}
+use Rattle.node_info.specs.declared.Geometry.{Geometry}
+use Rattle.btree_v2_internal.specs.declared.Node.{Node}
+use Rattle.btree_v2_internal.specs.declared.Internal.{Internal}
+use Rattle.btree_v2_internal.specs.Pointers.{address_at, records_at}
+use Rattle.btree_v2_collect.specs.declared.Tally.{Tally}
+use Rattle.btree_v2_collect.specs.Walk.{Counts, own_record_run}
+use Rattle.btree_v2_collect.specs.Collecting.{counts_of, internal_at, NodeThere, Walked, node_walk, children_walk}
 use Rattle.btree_v2_collect.specs.State.{Walks}
 use Rattle.btree_v2_collect.proofs.Walking.{Step}
-use Rattle.btree_v2_collect.proofs.Steps.{first_stops, record_stops, second_reads}
+use Rattle.btree_v2_collect.proofs.Nodes.{child_by, none_after}
+use Rattle.btree_v2_collect.proofs.Steps.{child_stops, child_tested, first_stops, record_stops, second_reads}
 
 -- Children of an internal node, and its record i.
 abbrev children : (d a n m i : ℕ) → Tree → Step
@@ -61,6 +66,14 @@ module _ (s0 s1 : Walk) (d a n i j k : ℕ) (low : i ≤ j) (high : j < k) (v : 
 pub walks_accepted : (s0 s1 : Walk) (step : Step) (v : Result ⊤ Refusal) → v ≡ Ok tt → Walks s0 step v s1 → Walks s0 step (Ok tt) s1
 walks_accepted s0 s1 step v e h = rw e at h
 
--- A refused one, handed up by `?`.
-pub walks_refused : (s0 s1 : Walk) (step : Step) (r : Result ⊤ Refusal) (q : Refusal) → IsErrAnd r (λ y. y ≡ q) → Walks s0 step (Err q) s1 → Walks s0 step r s1
-walks_refused s0 s1 step r q h walks = let p = err_from_is_err_and r h in rw (p.1, p.2) walks
+-- One child, and nothing after it, by what its pointer says.
+module _ (file : List ℕ) (g : Geometry) (d : ℕ) (x : Internal) (is : x ≡ internal_at g d x.node) (there : NodeThere file g x.node.address x.node.records)
+    (i k : ℕ) (one : i ≡ k) (child : Node) (address : child.address ≡ address_at file x i) (records : child.records ≡ records_at file x i)
+    (c : Counts) (o : List ℕ) (v : Result ⊤ Refusal) (t : Tally) (o1 : List ℕ)
+    (walked : Walked (node_walk file g d child.address child.records c o) v t o1) where
+  pub child_refused : (q : Refusal) → v ≡ Err q → Walked (children_walk file g d x.node.address x.node.records (k - i) i c o) v t o1
+  child_refused q e = child_stops file g _ d _ _ i c o k one child (child_by file g d x is there i child address records) v t o1 walked q e
+
+  pub child_read : v ≡ Ok tt → Walked (children_walk file g d x.node.address x.node.records (k - i) i c o) (Ok tt) t o1
+  child_read e =
+      child_tested file g _ d _ _ i c o k one child (child_by file g d x is there i child address records) v t o1 walked e (Ok tt) (none_after file g d _ _)

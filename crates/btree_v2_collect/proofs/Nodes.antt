@@ -86,9 +86,6 @@ module _ (file : List ℕ) (g : Geometry) (a n : ℕ) (there : record_place g a 
     pub begin_fits : Fits w64 (a + 6)
     begin_fits = omega (arith, record_there)
 
-    pub record_offset : Fits w64 (i * g.record_size)
-    record_offset = omega (arith, record_there)
-
     pub record_place_lem : Fits w64 (record_place g a i)
     record_place_lem = omega (arith, record_there)
 

@@ -12,7 +12,7 @@ use Rattle.node_info.specs.declared.Geometry.{Geometry}
 use Rattle.btree_v2_internal.specs.declared.Node.{Node}
 use Rattle.btree_v2_internal.specs.declared.Internal.{Internal}
 use Rattle.btree_v2_collect.specs.declared.Tally.{Tally}
-use Rattle.btree_v2_collect.specs.Collecting.{counts_of, run_of, saturated_counts, saturated_run, internal_at, ChildAt, Walked}
+use Rattle.btree_v2_collect.specs.Collecting.{counts_of, run_of, saturated_run, internal_at, ChildAt, Walked}
 use Rattle.refusal.proofs.Answers.{refused_is}
 use Rattle.numbers.specs.Numbers.{saturated}
 use Rattle.btree_v2_collect.proofs.Holding.{Alike, saturated_saturated, from_saturated, alike_after, count_alike, puts_alike, after_alike, own_record_alike, children_alike}
@@ -83,23 +83,6 @@ module _ (file : List ℕ) (g : Geometry) (tests : Tests) (d a n : ℕ) (node : 
       (fun_ext (λ c1. fun_ext (children_split m k (i + 1) c1)))
       ∙ then_four (run m (i + 1)) (between (i + 1 + m)) (run k (i + 1 + m + 1)) (between i) (child_run file g tests d a n node i c o))
 
--- One more of a tally's counts, as it is held.
-module _ (t : Tally) (x : ℕ) where
-  pub leaf_more : x ≡ saturated (t.leaves + 1)
-      → saturated_counts (record { records = t.records; leaves = x; internals = t.internals; internal_records = t.internal_records })
-      ≡ saturated_counts (with_leaf (counts_of t))
-  leaf_more e = rw (e, saturated_saturated)
-
-  pub internal_more : x ≡ saturated (t.internals + 1)
-      → saturated_counts (record { records = t.records; leaves = t.leaves; internals = x; internal_records = t.internal_records })
-      ≡ saturated_counts (with_internal (counts_of t))
-  internal_more e = rw (e, saturated_saturated)
-
-  pub internal_record_more : x ≡ saturated (t.internal_records + 1)
-      → saturated_counts (record { records = t.records; leaves = t.leaves; internals = t.internals; internal_records = x })
-      ≡ saturated_counts (with_internal_record (counts_of t))
-  internal_record_more e = rw (e, saturated_saturated)
-
 -- Depth and records left, as one number: a node has at most 65,535 records, and a half of them is less than all.
 abbrev pub falling : ℕ → ℕ → ℕ
 falling depth left = depth * 65537 + left
@@ -116,13 +99,15 @@ module _ (file : List ℕ) (g : Geometry) (tests : Tests) where
     unfolding node_run leaf_run
     leaf_stops q = test_stops _ v t o _ q tested
 
-    pub leaf_reads : (t1 : Tally) (v1 : Result ⊤ Refusal) (t2 : Tally) (o1 : List ℕ) → v ≡ Ok tt → saturated_counts (counts_of t1) ≡ saturated_counts (with_leaf (counts_of t))
-        → Walked (records_put file g n (a + 6) (counts_of t1) o) v1 t2 o1
-        → Walked (node_run file g tests 0 a n (counts_of t) o) v1 t2 o1
+    pub leaf_reads : v ≡ Ok tt → (x : ℕ) → x ≡ saturated (t.leaves + 1) → (v1 : Result ⊤ Refusal) (t1 : Tally) (o1 : List ℕ)
+        → Walked
+        (records_put file g n (a + 6) (counts_of (record { records = t.records; leaves = x; internals = t.internals; internal_records = t.internal_records })) o)
+        v1 t1 o1
+        → Walked (node_run file g tests 0 a n (counts_of t) o) v1 t1 o1
     unfolding node_run leaf_run
-    leaf_reads t1 v1 t2 o1 e counts =
+    leaf_reads e x more v1 t1 o1 =
         walked_as
-        (from_saturated (puts_alike file g n (a + 6)) (with_leaf (counts_of t)) (counts_of t1) o counts
+        (from_saturated (puts_alike file g n (a + 6)) (with_leaf (counts_of t)) _ o (rw (more, saturated_saturated))
         ∙ ap saturated_run (sym (test_passes _ v (counts_of t) o _ tested e)))
 
   -- An internal node of level d.
@@ -136,14 +121,17 @@ module _ (file : List ℕ) (g : Geometry) (tests : Tests) where
     pub node_stops : (q : Refusal) → v ≡ Err q → Walked (node_run file g tests d a n (counts_of t) o) (Err q) t o
     node_stops q e = walked_as (ap saturated_run (sym internal_is)) (test_stops _ v t o _ q refl e)
 
-    pub node_reads : (x : Internal) → x ≡ internal_at g (d - 1) (record { address = a; records = n }) → (t1 : Tally) (v1 : Result ⊤ Refusal) (t2 : Tally) (o1 : List ℕ) → v ≡ Ok tt
-        → saturated_counts (counts_of t1) ≡ saturated_counts (with_internal (counts_of t))
-        → Walked (children (d - 1) x.node.address x.node.records (n - 0) 0 (counts_of t1) o) v1 t2 o1
-        → Walked (node_run file g tests d a n (counts_of t) o) v1 t2 o1
-    node_reads x is t1 v1 t2 o1 e counts walked =
+    pub node_reads : (x : Internal) → x ≡ internal_at g (d - 1) (record { address = a; records = n }) → v ≡ Ok tt → (y : ℕ) → y ≡ saturated (t.internals + 1)
+        → (v1 : Result ⊤ Refusal) (t1 : Tally) (o1 : List ℕ)
+        → Walked
+        (children (d - 1) x.node.address x.node.records (n - 0) 0
+        (counts_of (record { records = t.records; leaves = t.leaves; internals = y; internal_records = t.internal_records })) o)
+        v1 t1 o1
+        → Walked (node_run file g tests d a n (counts_of t) o) v1 t1 o1
+    node_reads x is e y more v1 t1 o1 walked =
         let all : n - 0 ≡ n = omega arith in
         walked_as
-        (from_saturated (children_alike file g tests (d - 1) a n n 0) (with_internal (counts_of t)) (counts_of t1) o counts
+        (from_saturated (children_alike file g tests (d - 1) a n n 0) (with_internal (counts_of t)) _ o (rw (more, saturated_saturated))
         ∙ ap saturated_run (sym (internal_is ∙ test_passes _ v (counts_of t) o _ refl e)))
         (rw (is, all) at walked)
 
@@ -220,7 +208,8 @@ module _ (file : List ℕ) (g : Geometry) (a i : ℕ) (t : Tally) (o : List ℕ)
   pub own_record_stops : (q : Refusal) → v ≡ Err q → Walked (own_record_run file g a i (counts_of t) o) (Err q) t1 o1
   own_record_stops q e = rw e at (walked_as (ap saturated_run own_record_is) (hand_up count_alike put q e))
 
-  pub own_record_puts : (t2 : Tally) → v ≡ Ok tt → saturated_counts (counts_of t2) ≡ saturated_counts (with_internal_record (counts_of t1))
-      → Walked (own_record_run file g a i (counts_of t) o) (Ok tt) t2 o1
-  own_record_puts t2 e counts =
-      record { ends = ap (λ c. fine c o1) counts ∙ sym (sym (ap saturated_run own_record_is) ∙ go_on count_alike put e) }
+  pub own_record_puts : v ≡ Ok tt → (x : ℕ) → x ≡ saturated (t1.internal_records + 1)
+      → Walked (own_record_run file g a i (counts_of t) o) (Ok tt) (record { records = t1.records; leaves = t1.leaves; internals = t1.internals; internal_records = x }) o1
+  own_record_puts e x more =
+      let held : saturated x ≡ saturated (t1.internal_records + 1) = rw (more, saturated_saturated) in
+      record { ends = rw held (sym (sym (ap saturated_run own_record_is) ∙ go_on count_alike put e)) }

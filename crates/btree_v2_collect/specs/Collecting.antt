@@ -1,17 +1,15 @@
 -- The collector's own steps in the terms of the walk: what a tally and an answer say, counts saturated at 2^64 - 1, and what a step is given
 -- and leaves.
-use Rattle.std.specs.Prelude.{Result, ⊤, ℕ, ◌≤◌, ◌≡◌, List, [], length, true, false}
+use Rattle.std.specs.Prelude.{Result, ⊤, ℕ, ◌≤◌, ◌≡◌, List, length, true}
 use Rattle.refusal.specs.declared.Refusal.{Refusal}
 use Rattle.numbers.specs.Numbers.{saturated, field_size}
 use Rattle.node_info.specs.Capacity.{count_width, total_width}
 use Rattle.node_info.specs.declared.Geometry.{Geometry}
 use Rattle.btree_v2_collect.specs.Walk.{Counts, Run, fine, stopped, if_passed, record_place, pointer_to, address_in, records_in, children_run, node_run}
 use Rattle.btree_v2_collect.specs.Collect.{collect_tests}
-use Rattle.refusal.specs.Answer.{accepted, verdict_of}
-use Rattle.read_checks.specs.Tests.{no_records, root_test}
+use Rattle.refusal.specs.Answer.{verdict_of}
 use Rattle.btree_v2_collect.specs.declared.Tally.{Tally}
 use Rattle.btree_v2_collect.specs.declared.Collected.{Collected}
-use Rattle.btree_v2_header.specs.declared.BTreeV2Header.{BTreeV2Header}
 use Rattle.btree_v2_internal.specs.declared.Node.{Node}
 use Rattle.btree_v2_internal.specs.declared.Internal.{Internal}
 
@@ -66,7 +64,7 @@ pub record ChildrenLeft (file : List ℕ) (g : Geometry) (depth : ℕ) (x : Inte
   pub some : i ≤ k
   pub among : k ≤ x.node.records
 
--- The walk x ends as the answer v, the tally t and the output o say, all counts saturated; and the records put out are within the output.
+-- The walk x ends as the answer v, the tally t and the output o say, all counts saturated.
 pub record Walked (x : Run) (v : Result ⊤ Refusal) (t : Tally) (o : List ℕ) : Type 0 where
   pub ends : saturated_run (run_of v t o) ≡ saturated_run x
 

@@ -30,16 +30,11 @@ impl Tree<'_> {
     ghost use Rattle.btree_v2_collect.specs.Collecting.{internal_at};
 
     // An internal node whose children have level `under`.
-    #[tactic(auto, using(node_info::proofs::Columns::pointer_entry))]
     fn internal(&self, under: u16, node: Node) -> Internal
         requires { under ≤ self.now.depth }
         ensures { result ≡ internal_at self.now.geometry under node }
     {
-        Internal {
-            node,
-            record_size: self.geometry.record_size,
-            pointer: self.info.pointer_to(self.geometry.offset_size, under),
-        }
+        Internal::new(node, self.geometry, self.info, under)
     }
 }
 
@@ -52,7 +47,8 @@ struct Walk<'a> {
     ghost within: { tally.records * tree.geometry.record_size ≤ length output.now },
 }
 
-// How many of n records of this size fit into `room` bytes.
+// How many of n records of this size fit into `room` bytes. The division, (room / each).min(all), is left out where all fit: this is asked for
+// each node and each record between children.
 fn fitting(n: u16, size: u16, room: usize) -> usize
     requires { 0 < size }
     ensures { (result ≤ n) × (result * size ≤ room) × (result < n → room < (result + 1) * size) }
@@ -71,6 +67,7 @@ impl Walk<'_> {
     ghost use Rattle.btree_v2_collect.specs.State.{Walks};
 
     // Puts n records from place `from` of the file on out, after those that are there: as many as fit, and 15 where one does not.
+    #[tactic(auto, using(crate::proofs::Putting::put_all, crate::proofs::Putting::put_part))]
     fn put_records(&mut self, from: usize, n: u16) -> Result<(), Refusal>
         requires { from + n * self.old.tree.geometry.record_size ≤ length self.old.tree.file.now }
         ensures { Walks self.old (records_put self.old.tree.file.now self.old.tree.geometry n from) result self.new }
@@ -88,9 +85,11 @@ impl Walk<'_> {
     }
 
     // Reads a leaf, whose records are put out at once.
+    #[tactic(auto, using(crate::proofs::Steps::leaf_stops, crate::proofs::Steps::leaf_reads, crate::proofs::Nodes::leaf_tested, crate::proofs::Nodes::leaf_there))]
     fn collect_leaf(&mut self, node: Node) -> Result<(), Refusal>
         ensures { Walks self.old (node_walk self.old.tree.file.now self.old.tree.geometry 0 node.address node.records) result self.new }
     {
+        // btree_v2_leaf does not know the pointers' `Node`
         let leaf = Leaf {
             address: node.address,
             count: node.records,
@@ -103,6 +102,7 @@ impl Walk<'_> {
     }
 
     // Puts record i of the internal node at this address out.
+    #[tactic(auto, using(crate::proofs::Steps::own_record_stops, crate::proofs::Steps::own_record_puts, crate::proofs::Nodes::begin_fits))]
     fn put_own_record(&mut self, address: u64, i: u16) -> Result<(), Refusal>
         requires { NodeThere self.old.tree.file.now self.old.tree.geometry address (i + 1) }
         ensures { Walks self.old (own_record_run self.old.tree.file.now self.old.tree.geometry address i) result self.new }
@@ -117,6 +117,7 @@ impl Walk<'_> {
     // Reads the node of this level: a leaf, or an internal node with its children and its records between them. Here and below an answer is taken
     // apart and not returned as it came: of an accepted one, one byte is then handed up.
     #[cycle(collect_children_collect_node)]
+    #[tactic(auto, using(crate::proofs::Steps::node_stops, crate::proofs::Steps::node_reads, crate::proofs::Nodes::tested_at, crate::proofs::Moves::walks_accepted))]
     fn collect_node(&mut self, level: u16, node: Node) -> Result<(), Refusal>
         requires { level ≤ self.old.tree.depth }
         ensures { Walks self.old (node_walk self.old.tree.file.now self.old.tree.geometry level node.address node.records) result self.new }
@@ -143,6 +144,7 @@ impl Walk<'_> {
     // Reads the children of an internal node from child `first` to child `last`, with the records between them: one child, or the first half, the
     // record in the middle, and the second half. One place has all the answers, so that a halving takes little of the stack.
     #[cycle(collect_children_collect_node)]
+    #[tactic(auto, using(crate::proofs::Moves::first_refused, crate::proofs::Moves::middle_refused, crate::proofs::Moves::others_read, crate::proofs::Moves::walks_accepted, crate::proofs::Moves::child_refused, crate::proofs::Moves::child_read))]
     fn collect_children(
         &mut self,
         internal: &Internal,
@@ -209,6 +211,7 @@ impl Tree<'_> {
 }
 
 // Collects the records of the header's tree, from its root on, or there are none; refused where its base or its figures are.
+#[tactic(auto, using(crate::proofs::Calls::root_sized, crate::proofs::Calls::root_deep))]
 fn collect_tree(
     file: &[u8],
     header: &BTreeV2Header,

@@ -15,6 +15,7 @@ pub struct Tally {
     pub internal_records: u64,
 }
 
+// What collecting answers: the counts stand in a refused call too, up to where it stopped.
 #[derive(Clone, Copy)]
 pub struct Collected {
     pub verdict: Result<(), Refusal>,

@@ -5,13 +5,12 @@ use Prim.Native.Nat.{ℕ, suc, ◌+◌, ◌-◌, ◌≤◌, ◌<◌}
 use native.Mathlib.Nat.{le_refl}
 use native.Mathlib.Omega.{arith}
 use lib.ListN.{length}
-use Rattle.std.specs.Prelude.{Option, Some, None, Ok, Err}
+use Rattle.std.specs.Prelude.{Option, Some, None, Result, ⊤, Ok, Err}
 use Rattle.std.specs.Option.{option_or}
-use Rattle.refusal.specs.Answer.{Answer, accepted, refusal_of}
+use Rattle.refusal.specs.Answer.{Answer, accepted, refusal_of, verdict_of}
 use Rattle.refusal.specs.declared.Refusal.{Refusal}
 use Rattle.refusal.proofs.Answers.{refused_is}
 use Rattle.node_info.specs.declared.Geometry.{Geometry}
-use Rattle.node_info.specs.declared.ChildPointer.{ChildPointer}
 use Rattle.node_info.specs.declared.NodeInfo.{NodeInfo}
 use Rattle.node_info.specs.Table.{info_at, pointer_size, pointer_in}
 use Rattle.node_info.proofs.Columns.{pointer_entry}
@@ -26,7 +25,7 @@ use Rattle.btree_v2_collect.specs.Walk.{record_place}
 use Rattle.btree_v2_collect.specs.InFile.{at_child}
 use Rattle.btree_v2_collect.specs.Collect.{collect_tests}
 use Rattle.btree_v2_collect.specs.Collecting.{NodeThere, internal_at}
-use Rattle.btree_v2_collect.proofs.Nodes.{tested_at, child_by, leaf_tested, leaf_there, node_there}
+use Rattle.btree_v2_collect.proofs.Nodes.{tested_by, child_by, leaf_tested, leaf_there, node_there}
 use Rattle.btree_v2_find.specs.Find.{one_of, last_with, Descent, ended, on_passed, behind, bound, bounding, descent, place_found, find_cells}
 use Rattle.btree_v2_find.specs.Answers.{place_of, found_cells, found_of}
 use Rattle.btree_v2_find.specs.Descending.{GoesOn}
@@ -95,19 +94,20 @@ module _ (file : List ℕ) (g : Geometry) (f : Field) (x depth : ℕ) (root : No
     found_here = last_with (number_at file f) x (bounding file g f x a n)
 
     -- An internal node, whose children have level u.
-    module _ (info : NodeInfo) (table : info ≡ info_at g depth) (deep : depth ≤ 32) (some : 0 < level) (p : ChildPointer)
-        (by_table : p ≡ pointer_in info g.offset_size (level - 1)) where
+    module _ (info : NodeInfo) (table : info ≡ info_at g depth) (deep : depth ≤ 32) (some : 0 < level) (internal : Internal)
+        (by_table : internal ≡ record { node = node; record_size = g.record_size; pointer = pointer_in info g.offset_size (level - 1) }) where
       abbrev u : ℕ
       u = level - 1
 
-      abbrev internal : Internal
-      internal = record { node = node; record_size = g.record_size; pointer = p }
-
       abbrev test : Answer
-      test = internal_test file g.record_size p.offset_size (pointer_size p) a n
+      test =
+          internal_test file internal.record_size internal.pointer.offset_size (pointer_size internal.pointer) internal.node.address internal.node.records
 
       is : internal ≡ internal_at g u node
       is = rw (by_table, pointer_entry g depth info table u (omega (arith, going.low)) deep g.offset_size)
+
+      tests : (v : Result ⊤ Refusal) → verdict_of v ≡ test → verdict_of v ≡ (collect_tests file g).internal u a n
+      tests v code = tested_by file g u (internal_at g u node) refl v (rw is at code)
 
       abbrev next : Descent
       next = at_child file g (down u) u a n (bound file g f x a n)
@@ -118,12 +118,12 @@ module _ (file : List ℕ) (g : Geometry) (f : Field) (x depth : ℕ) (root : No
 
       pub internal_stops : (q : Refusal) → refusal_of q ≡ test → found_cells (found_of k (Err q)) ≡ find_cells file f x whole
       internal_stops q refuses =
-          let there = rw (opens, ← tested_at file g u node internal is (Err q) refuses, (refused_is q).2) at going.on in
+          let there = rw (opens, ← tests (Err q) refuses, (refused_is q).2) at going.on in
           ends_refused file f x whole k (place_of kept) q (rw (refused_is q).2 there)
 
       module _ (passes : accepted [] ≡ test) where
         tested : accepted [] ≡ (collect_tests file g).internal u a n
-        tested = tested_at file g u node internal is (Ok tt) passes
+        tested = tests (Ok tt) passes
 
         there : NodeThere file g a n
         there = node_there file g u a n (Ok tt) tested refl
@@ -134,7 +134,7 @@ module _ (file : List ℕ) (g : Geometry) (f : Field) (x depth : ℕ) (root : No
         pub internal_turn : (i : ℕ) → i ≡ bound file g f x a n → (o : Option ℕ) → place_of o ≡ found_here → (kept1 : Option ℕ) → kept1 ≡ option_or o kept
             → (b : Node) → b.address ≡ address_at file internal i → b.records ≡ records_at file internal i → Going b kept1 u (k + 1)
         internal_turn i e o here kept1 keeps b address records =
-            let child = child_by file g u internal is there i b address records in
+            let child = child_by file g u (internal_at g u node) refl there i b (rw is at address) (rw is at records) in
             let on = rw (opens, ← tested) at going.on in
             record {
               low = omega (arith, going.low);

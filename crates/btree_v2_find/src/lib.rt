@@ -80,7 +80,7 @@ impl<'a> Search<'a> {
         }
     }
 
-    // The descent from the root on; it counts the nodes whose tests pass.
+    // The descent from the root on; it counts the nodes whose tests pass. The count is lent: a refused descent has one too, which `?` would lose.
     fn descend(
         &self,
         info: &NodeInfo,
@@ -98,17 +98,14 @@ impl<'a> Search<'a> {
         let mut node = root;
         let mut kept = None;
         for level in (0..depth).rev() {
-            let internal = Internal {
-                node,
-                record_size: geometry.record_size,
-                pointer: info.pointer_to(geometry.offset_size, level),
-            };
+            let internal = Internal::new(node, geometry, info, level);
             internal.check(self.file)?;
             *nodes += 1;
             let step = self.step(node);
             kept = step.place.or(kept);
             node = internal.child(self.file, step.child);
         }
+        // btree_v2_leaf does not know the pointers' `Node`
         let leaf = Leaf {
             address: node.address,
             count: node.records,
@@ -120,7 +117,8 @@ impl<'a> Search<'a> {
     }
 }
 
-// Seeks the record of the header's tree in the part of the file from the header's base on; it counts the nodes whose tests pass.
+// Seeks the record of the header's tree in the part of the file from the header's base on; it counts the nodes whose tests pass. Collecting
+// begins with the same tests but the key's: one function for both would answer a part, none or a refusal, and taking that apart is as long.
 #[tactic(auto, unfolding(crate::specs::Find::found_at, crate::specs::Find::descended, crate::specs::Find::key_test, read_checks::specs::Base::on_part))]
 fn seek(
     file: &[u8],

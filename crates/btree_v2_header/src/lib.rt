@@ -16,6 +16,7 @@ use refusal::Refusal;
 // The header, as it stands in a file, and the base of that file.
 #[derive(Clone, Copy)]
 pub struct BTreeV2Header {
+    // any number may stand in a file, so this is not an enum of the known types
     pub tree_type: u8,
     pub geometry: Geometry,
     // 0: the root is a leaf

@@ -1,15 +1,18 @@
 -- The tests of an internal node: what a node that passes them has, and how they answer; and the child that a pointer leads to.
-use mathlib.Core.Path.{◌≡◌}
+use mathlib.Core.Path.{◌≡◌, refl, sym, ap, ◌∙◌}
 use mathlib.Core.List.{List, [], ◌∷◌}
-use Prim.Native.Nat.{ℕ, ◌+◌, ◌-◌, ◌*◌, ◌%◌, ◌^◌, ◌≤◌, ◌<◌, min}
-use native.Mathlib.Nat.{min-eq_left}
+use Prim.Native.Nat.{ℕ, ◌+◌, ◌-◌, ◌*◌, ◌%◌, ◌^◌, ◌≤◌, ◌<◌, zero, suc, min}
+use native.Mathlib.Nat.{min-eq_left, pow-le-pow_right}
 use native.Mathlib.Omega.{arith}
 use mathlib.Core.Bool.{true}
-use lib.Dec.{leb}
-use lib.ListN.{length}
-use Rattle.numbers.specs.Numbers.{num, saturated, field_size}
+use lib.Dec.{leb, lit<}
+use lib.ListN.{length, get_or, take, drop}
+use lib.Seq.{get_or-drop}
+use mir.Syntax.{w16}
+use mir.Val.{Fits}
+use Rattle.numbers.specs.Numbers.{unle, num, saturated, field_size}
 use Rattle.numbers.proofs.Copying.{num_saturated}
-use Rattle.numbers.proofs.Numbers.{saturated_add}
+use Rattle.numbers.proofs.Numbers.{saturated_add, num_lt}
 use Rattle.node_info.specs.Table.{pointer_size}
 use Rattle.refusal.specs.Answer.{accepted}
 use Rattle.format.specs.Bytes.{internal_signature, records_end}
@@ -19,6 +22,23 @@ use Rattle.read_checks.proofs.Passing.{passed, passed_both, there, front_there}
 use Rattle.read_checks.proofs.Plain.{Plain, accepts, refuses, plain_or, plain_on, front_plain}
 use Rattle.btree_v2_internal.specs.declared.Internal.{Internal}
 use Rattle.btree_v2_internal.specs.Pointers.{pointer_at, address_at, records_at}
+
+-- A number's first two bytes hold it modulo 65,536.
+num_mod_bytes : (w : ℕ) (l : List ℕ) → ((i : ℕ) → get_or l i 0 < 256) → unle (take w l) % 65536 ≡ unle (take (min w 2) l)
+unfolding unle
+num_mod_bytes zero l h = refl
+num_mod_bytes (suc zero) [] h = refl
+num_mod_bytes (suc zero) (x ∷ l) h = omega (arith, h 0)
+num_mod_bytes (suc (suc w)) l h = let two : min (suc (suc w)) 2 ≡ 2 = omega arith in rw two (first_two l h)
+  where
+    first_two : (l : List ℕ) → ((i : ℕ) → get_or l i 0 < 256) → unle (take (suc (suc w)) l) % 65536 ≡ unle (take 2 l)
+    first_two [] h = refl
+    first_two (x ∷ []) h = omega (arith, h 0)
+    first_two (x ∷ (y ∷ l)) h = omega (arith, h 0, h 1)
+
+num_mod : (l : List ℕ) (p w : ℕ) → ((i : ℕ) → get_or l i 0 < 256) → num l p w % 65536 ≡ num l p (min w 2)
+unfolding num
+num_mod l p w h = num_mod_bytes w (drop p l) (λ i. rw get_or-drop (h (p + i)))
 
 module _ (file : List ℕ) (rs ow w a n : ℕ) where
   -- What an internal node that passes has: its first 6 bytes, its records, and offsets of one of the sizes.
@@ -52,10 +72,22 @@ module _ (file : List ℕ) (x : Internal) (i records before at : ℕ) (small : l
   unfolding address_at child_address
   address_is a e = rw (e, begins, num_saturated _ _ _ small, place)
 
-  pub records_is : (next n : ℕ) → n ≡ num file next (min x.pointer.count_size 8) → next ≡ saturated (at + x.pointer.offset_size)
-      → n % 65536 ≡ records_at file x i
+  pub records_is : ((j : ℕ) → get_or file j 0 < 256) → (next size n : ℕ) → n ≡ num file next (min size 8) → size ≡ min x.pointer.count_size 2
+      → next ≡ saturated (at + x.pointer.offset_size) → n ≡ records_at file x i
   unfolding records_at child_records
-  records_is next n e after = rw (e, after, begins, saturated_add, num_saturated _ _ _ small, place)
+  records_is bytes next size n e two after =
+      e ∙ ap (λ w. num file next w) (size_is size two) ∙ sym (num_mod file next (min x.pointer.count_size 8) bytes)
+      ∙ rw (after, begins, saturated_add, num_saturated _ _ _ small, place)
+    where
+      size_is : (s : ℕ) → s ≡ min x.pointer.count_size 2 → min s 8 ≡ min (min x.pointer.count_size 8) 2
+      size_is s h = omega (arith, h)
+
+-- A number in at most two bytes.
+pub count_fits : (l : List ℕ) (at size width x : ℕ) → x ≡ num l at (min size 8) → size ≡ min width 2 → ((i : ℕ) → get_or l i 0 < 256) → Fits w16 x
+count_fits l at size width x stored few known =
+    let two : min size 8 ≤ 2 = omega (arith, few) in
+    let bound : 256 ^ min size 8 ≤ 256 ^ 2 = pow-le-pow_right (lit< tt) two in
+    omega (arith, num_lt l at (min size 8) known, stored)
 
 -- Where no field of a pointer has more than 8 bytes, `address_at` and `records_at` are the address and the count of a walk.
 module _ (file : List ℕ) (x : Internal) (i : ℕ) where

@@ -6,11 +6,11 @@ ghost use Rattle.std.specs.Prelude.{◌≡◌, ◌+◌, ◌*◌, ◌^◌, ◌<�
 ghost use Rattle.numbers.specs.Numbers.{part};
 ghost use Rattle.refusal.specs.Answer.{verdict_of};
 ghost use Rattle.format.specs.Bytes.{prefix_size};
-ghost use Rattle.node_info.specs.Table.{pointer_size};
+ghost use Rattle.node_info.specs.Table.{pointer_size, pointer_in};
 ghost use Rattle.btree_v2_internal.specs.Internal.{internal_body, internal_test};
 ghost use Rattle.btree_v2_internal.specs.Pointers.{address_at, records_at};
 
-use node_info::ChildPointer;
+use node_info::{ChildPointer, Geometry, NodeInfo};
 use refusal::Refusal;
 
 // A node as the pointer to it has it.
@@ -37,11 +37,26 @@ fn pointers_size(pointer: ChildPointer, count: u32) -> u64
 }
 
 impl Internal {
+    // This node of a tree with these sizes and this table, where its children have level `under`.
+    pub fn new(node: Node, geometry: Geometry, info: &NodeInfo, under: u16) -> Internal
+        ensures { result ≡ record {
+          node = node;
+          record_size = geometry.record_size;
+          pointer = pointer_in info.now geometry.offset_size under;
+        } }
+    {
+        Internal {
+            node,
+            record_size: geometry.record_size,
+            pointer: info.pointer_to(geometry.offset_size, under),
+        }
+    }
+
     // Its tests.
     #[tactic(auto, unfolding(crate::specs::Internal::internal_test))]
     pub fn check(&self, file: &[u8]) -> Result<(), Refusal>
-        ensures { verdict_of result ≡ internal_test file.now self.now.record_size self.now.pointer.offset_size
-            (pointer_size self.now.pointer) self.now.node.address self.now.node.records }
+        ensures { let x = self.now in verdict_of result ≡ internal_test file.now x.record_size x.pointer.offset_size
+            (pointer_size x.pointer) x.node.address x.node.records }
     {
         read_checks::check_front(file, self.node.address, b"BTIN")?;
         self.check_body(file)
@@ -50,8 +65,8 @@ impl Internal {
     // The tests after those of the front: the records and the pointers are there, and offsets have one of the sizes.
     #[tactic(auto, unfolding(crate::specs::Internal::internal_body))]
     pub fn check_body(&self, file: &[u8]) -> Result<(), Refusal>
-        ensures { verdict_of result ≡ internal_body file.now self.now.record_size self.now.pointer.offset_size
-            (pointer_size self.now.pointer) self.now.node.address self.now.node.records }
+        ensures { let x = self.now in verdict_of result ≡ internal_body file.now x.record_size x.pointer.offset_size
+            (pointer_size x.pointer) x.node.address x.node.records }
     {
         let rest = numbers::part(file, self.node.address, file.len() as u64);
         let records_end = read_checks::records_end(self.record_size, self.node.records);
@@ -67,13 +82,13 @@ impl Internal {
 
     // The bytes of its records, or as many as there are.
     pub fn records<'a>(&self, file: &'a [u8]) -> &'a [u8]
-        ensures { result.now ≡ part file.now (self.now.node.address + prefix_size) (self.now.node.records * self.now.record_size) }
+        ensures { let x = self.now in result.now ≡ part file.now (x.node.address + prefix_size) (x.node.records * x.record_size) }
     {
         read_checks::records_of(file, self.node.address, self.record_size, self.node.records)
     }
 
     // The child that pointer i leads to. A place that is saturated at 2^64 - 1 is past the end of every file.
-    #[tactic(auto, using(crate::proofs::Nodes::address_is, crate::proofs::Nodes::records_is))]
+    #[tactic(auto, using(crate::proofs::Nodes::address_is, crate::proofs::Nodes::records_is, crate::proofs::Nodes::count_fits))]
     pub fn child(&self, file: &[u8], i: u16) -> Node
         ensures address { result.address ≡ address_at file.now self.now i }
         ensures records { result.records ≡ records_at file.now self.now i }
@@ -84,10 +99,9 @@ impl Internal {
         let at = self.node.address.saturating_add(before);
         let next = at.saturating_add(pointer.offset_size as u64);
         let address = numbers::read_le(file, at as usize, pointer.offset_size as usize);
-        let records = numbers::read_le(file, next as usize, pointer.count_size as usize);
-        Node {
-            address,
-            records: (records % 65536) as u16,
-        }
+        // a count is taken modulo 65,536: its first two bytes hold that
+        let count_size = (pointer.count_size as usize).min(2);
+        let records = numbers::read_le(file, next as usize, count_size) as u16;
+        Node { address, records }
     }
 }

@@ -45,7 +45,7 @@ impl<'a> LeafView<'a> {
         self.count
     }
 
-    // Record i, or an empty part where i is not below the count.
+    // Record i, or an empty part where i is not below the count: it can't fail, and `copy_leaf_record` answers 0 bytes of it.
     #[tactic(auto, unfolding(crate::specs::Look::record_seen))]
     pub fn record(self, i: u64) -> &'a [u8]
         ensures { result.now ≡ record_seen self.entry.records.now self.entry.record_size self.entry.count i }

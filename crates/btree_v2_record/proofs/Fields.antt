@@ -1,7 +1,8 @@
 -- The loops over a type's fields: what the fields that are left add to a length, to the values and to the bytes.
 use Rattle.std.proofs.Common.{◌≡◌, ℕ, ◌+◌, ◌*◌, ◌/◌, ◌^◌, ◌<◌, ◌≤◌, min, Bool, true, false, List, [], ◌∷◌, length, get_or, set, take, drop, refl, ◌∙◌, leb, ltb, eqb, le-leb, eq-eqb, arith}
-use Rattle.std.specs.List.{list_all}
+use Rattle.std.specs.List.{list_all, sum_by}
 use Rattle.std.proofs.lemmas.List.{at_drop_more, at_drop_all}
+use Rattle.std.proofs.lemmas.List.Recursion.{is_sum_by}
 use native.Mathlib.Nat.{div-eq_of_lt, div-lt_iff_lt-mul}
 use lib.Dec.{lit≤}
 use lib.Pow.{pow_pos}
@@ -73,3 +74,13 @@ pub fits_all : (fs : List Field) (v : List ℕ) → values_fit (fields_of fs) v 
 unfolding values_fit
 fits_all [] v = refl
 fits_all (f ∷ fs) v = rw (fits_all fs v)
+
+-- The length is the sum of the widths, each at most 8.
+pub length_sum : (fs : List Field) → record_length (fields_of fs) ≡ sum_by (λ (f : Field). f.width) fs
+unfolding record_length
+length_sum = is_sum_by (λ (fs : List Field). record_length (fields_of fs)) (λ (f : Field). f.width) refl (λ _ _. refl)
+
+pub length_small : (fs : List Field) → record_length (fields_of fs) ≤ 8 * length fs
+unfolding record_length
+length_small [] = omega arith
+length_small (f ∷ fs) = omega (arith, f.narrow, length_small fs)

@@ -1,5 +1,5 @@
 // What stands around the contents of the header and of every node: signature, version and type in front, checksum and zeros behind; and the
-// header itself. A budget says how many of these fields are put.
+// header itself. A budget says how many of these fields are put: what stands after each of them is part of the promise, for every budget.
 
 #![tactic(auto)]
 
@@ -30,10 +30,7 @@ pub struct Root {
 pub fn put_front(node: &mut [u8], signature: &[u8; 4], tree_type: u8, budget: usize)
     ensures { node.new ≡ fronted node.old signature.now tree_type budget }
 {
-    if node.len() < 6 {
-        return;
-    }
-    if budget < 1 {
+    if node.len() < 6 || budget < 1 {
         return;
     }
     node[..4].copy_from_slice(signature);
@@ -53,16 +50,7 @@ pub fn put_front(node: &mut [u8], signature: &[u8; 4], tree_type: u8, budget: us
 pub fn stamp(node: &mut [u8], used: usize, node_size: usize, budget: usize)
     ensures { node.new ≡ stamped node.old used node_size budget }
 {
-    if node.len() < node_size {
-        return;
-    }
-    if node_size < 4 {
-        return;
-    }
-    if node_size - 4 < used {
-        return;
-    }
-    if budget < 1 {
+    if node.len() < node_size || node_size < 4 || node_size - 4 < used || budget < 1 {
         return;
     }
     let sum = checksum::jenkins_lookup3(&node[..used]);

@@ -148,6 +148,10 @@ leaf_few : (q : Request) (recs : List ℕ) (n r : ℕ) → n < 2 ^ 24 → length
 unfolding leaf_fields with_end end_fields front_fields
 leaf_few q recs n r h = simp (length-append, records_many) (omega arith)
 
+-- The budget of a whole node is enough for its fields.
+pub whole_node : 2 ^ 32 ≤ 18446744073709551615
+whole_node = omega arith
+
 pub leaf_done : {q : Request} {t : NodeInfo} {recs o o' : List ℕ} {depth n j r whole : ℕ}
     → Ready q t (length recs) (length o) depth n j r → depth ≡ 0 → 2 ^ 32 ≤ whole
     → o' ≡ stored o (j * q.geometry.node_size) (joined (take whole (leaf_fields q recs n r)))

@@ -33,11 +33,7 @@ fn put_le(node: &mut [u8], at: usize, x: u64, width: usize)
 }
 
 // The budget of a whole node: more than a node has fields.
-pub(crate) fn whole() -> usize
-    ensures { 2 ^ 32 ≤ result }
-{
-    usize::MAX
-}
+pub(crate) const WHOLE: usize = usize::MAX;
 
 // A node, where its next field goes, and how many fields may still be put. Where none may, the place goes on all the same.
 #[derive(Drop)]
@@ -86,7 +82,8 @@ impl<'a> Filling<'a> {
         self.pass(1, width);
     }
 
-    // Puts the n records from record r of the list on as the next fields, each of `size` bytes: in one copy, those that may still be put.
+    // Puts the n records from record r of the list on as the next fields, each of `size` bytes: in one copy, those that may still be put. The list
+    // and not a slice of these records: with that, contracts here would say its length in place of the bound, and callers cut it out first.
     pub(crate) fn put_records(&mut self, records: &[u8], size: usize, n: usize, r: usize)
         requires { (self.old.at + n * size ≤ length self.old.node.now) × ((r + n) * size ≤ length records.now) }
         ensures { Filled self.old (record_fields size records.now n r) self.new }

@@ -47,7 +47,7 @@ pub(crate) struct InternalNode {
     pub(crate) first: Place,
 }
 
-// Of child i: `larger` of the first `extra` children, `smaller` of the others.
+// Of child i: `larger` of the first `extra` children, `smaller` of the others. Not a method, since `Distribution` is a type of plan.
 pub(crate) fn of_child<T: Copy>(distributed: &Distribution, i: u64, larger: T, smaller: T) -> T
     ensures { result ≡ pick (ltb i distributed.now.extra) larger smaller }
 {

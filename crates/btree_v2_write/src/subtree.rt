@@ -3,8 +3,9 @@
 ghost use Rattle.std.specs.Prelude.{◌≡◌, ◌+◌, ◌^◌, ◌<◌, length};
 ghost use Rattle.btree_v2_write.specs.Subtrees.{after, Ready, SubtreeWritten};
 
+use crate::filling::WHOLE;
+use crate::node;
 use crate::node::{Child, InternalNode, Place, Writing};
-use crate::{filling, node};
 
 impl Place {
     // The place after a subtree that was written here, and the record that follows it.
@@ -28,7 +29,7 @@ impl Writing<'_> {
         ensures { SubtreeWritten self.now.request self.now.records.now image.old image.new depth n at.nodes at.records result }
     {
         if depth == 0 {
-            self.write_leaf(image, n as usize, at, filling::whole());
+            self.write_leaf(image, n as usize, at, WHOLE);
             return Child {
                 records: n,
                 total: n,
@@ -54,7 +55,7 @@ impl Writing<'_> {
                 .pointer_to(self.request.geometry.offset_size, under as u16),
             first: at,
         };
-        self.write_internal(image, &internal, next.nodes, filling::whole());
+        self.write_internal(image, &internal, next.nodes, WHOLE);
         Child {
             records: distributed.kept,
             total: n,

@@ -19,9 +19,7 @@ impl Field {
     pub fn is_in(self, record_size: u16) -> bool
         ensures { result ≡ number_field self record_size }
     {
-        1 <= self.width
-            && self.width <= 8
-            && self.start.saturating_add(self.width) <= record_size as u64
+        (1..=8).contains(&self.width) && self.start.saturating_add(self.width) <= record_size as u64
     }
 
     // The field's number in the record at `place`; of a field that runs past the end of the data, its bytes before the end. A width above 8
@@ -46,10 +44,8 @@ impl Field {
 pub fn read_eight(data: &[u8]) -> u64
     ensures { result ≡ pick (leb 8 (length «data».now)) (num «data».now 0 8) 0 }
 {
-    match data.first_chunk::<8>() {
-        Some(eight) => u64::from_le_bytes(*eight),
-        None => 0,
-    }
+    data.first_chunk::<8>()
+        .map_or(0, |eight| u64::from_le_bytes(*eight))
 }
 
 // The number in the low `width` bytes of x; a width above 8 counts as 8.

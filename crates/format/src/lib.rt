@@ -13,7 +13,7 @@ pub const PREFIX_SIZE: u64 = 6;
 // Bytes of a header beside the root's address and the number of records in all.
 pub const HEADER_OVERHEAD: u64 = 22;
 
-// The numbers that a write is given.
+// The numbers that a write is given: any may be, also as its type and its sizes, and each has an answer.
 #[derive(Clone, Copy)]
 pub struct Request {
     pub tree_type: u8,

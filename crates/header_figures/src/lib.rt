@@ -16,7 +16,7 @@ fn figure(figures: &[u64], i: usize) -> u64
 }
 
 // The header that its figures tell, as btree_v2_parse or btree_v2_parse_at gives them, without a base or with one; a number above its field's
-// range counts modulo that range: written as a remainder, since `as` alone does not cut, and no method of the library does.
+// range counts modulo that range: by a remainder, since `as` alone does not cut, and by the first of `to_le_bytes` it is no plainer.
 pub fn header_of(figures: &[u64], offset_size: u8) -> BTreeV2Header
     ensures { result ≡ header_from figures.now offset_size }
 {

@@ -61,24 +61,26 @@ pub struct NodeInfo {
     pub levels: [Level; 33],
 }
 
-// Records in a full leaf.
-#[tactic(auto, unfolding(crate::specs::Capacity::leaf_capacity))]
-fn max_records_leaf(geometry: Geometry) -> u64
-    ensures { result ≡ leaf_capacity geometry }
-{
-    let room = geometry.node_size.saturating_sub(NodeInfo::OVERHEAD) as u64;
-    room.checked_div(geometry.record_size as u64).unwrap_or(0)
-}
+impl Geometry {
+    // Records in a full leaf.
+    #[tactic(auto, unfolding(crate::specs::Capacity::leaf_capacity))]
+    fn max_records_leaf(self) -> u64
+        ensures { result ≡ leaf_capacity self }
+    {
+        let room = self.node_size.saturating_sub(NodeInfo::OVERHEAD) as u64;
+        room.checked_div(self.record_size as u64).unwrap_or(0)
+    }
 
-// Records in a full internal node with child pointers like this.
-#[tactic(auto, unfolding(crate::specs::Capacity::internal_capacity))]
-fn max_records_internal(geometry: Geometry, pointer: ChildPointer) -> u64
-    ensures { result ≡ internal_capacity geometry (pointer_size pointer) }
-{
-    let size = pointer.size();
-    let room = (geometry.node_size as u64).saturating_sub(NodeInfo::OVERHEAD as u64 + size);
-    room.checked_div((geometry.record_size as u64) + size)
-        .unwrap_or(0)
+    // Records in a full internal node with child pointers like this.
+    #[tactic(auto, unfolding(crate::specs::Capacity::internal_capacity))]
+    fn max_records_internal(self, pointer: ChildPointer) -> u64
+        ensures { result ≡ internal_capacity self (pointer_size pointer) }
+    {
+        let size = pointer.size();
+        let room = (self.node_size as u64).saturating_sub(NodeInfo::OVERHEAD as u64 + size);
+        room.checked_div((self.record_size as u64) + size)
+            .unwrap_or(0)
+    }
 }
 
 // The entries of the level above one whose subtrees hold `under` records, with child pointers like this.
@@ -86,7 +88,7 @@ fn max_records_internal(geometry: Geometry, pointer: ChildPointer) -> u64
 pub fn level_above(geometry: Geometry, pointer: ChildPointer, under: u64) -> Level
     ensures { result ≡ next_level geometry (pointer_size pointer) under }
 {
-    let max_nrec = max_records_internal(geometry, pointer);
+    let max_nrec = geometry.max_records_internal(pointer);
     let cum_max_nrec = (max_nrec + 1)
         .saturating_mul(under)
         .saturating_add(max_nrec);
@@ -123,7 +125,7 @@ impl NodeInfo {
     fn fill_leaf(&mut self, geometry: Geometry)
         ensures { self.new ≡ info_at geometry 0 }
     {
-        let max_nrec = max_records_leaf(geometry);
+        let max_nrec = geometry.max_records_leaf();
         self.max_nrec_size = numbers::bytes_for_max_records(max_nrec);
         self.levels.fill(Level::NONE);
         self.levels[0] = Level {

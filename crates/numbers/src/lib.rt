@@ -19,7 +19,7 @@ pub fn read_le(data: &[u8], at: usize, width: usize) -> u64
 }
 
 // Puts x at `at`, lowest byte first, into `width` bytes, where these fit, and gives the place after them; else changes nothing and gives
-// `at`.
+// `at`, which is promised, so no Option. By remainders, since a copy of a varying width out of `to_le_bytes` was measured slower.
 #[tactic(auto, using(crate::proofs::Writing::written_start, crate::proofs::Writing::written_end, crate::proofs::Writing::not_written))]
 pub fn write_le(data: &mut [u8], at: usize, x: u64, width: usize) -> usize
     ensures { («data».new ≡ put «data».old at (le width x)) × (result ≡ pick (leb (at + width) (length «data».old)) (at + width) at) }
@@ -63,7 +63,8 @@ pub fn bytes_for_max_records(max_nrec: u64) -> u8
     bits.div_ceil(8).max(1) as u8
 }
 
-// Whether offsets or lengths may have this size.
+// Whether offsets or lengths may have this size. Each of the two has its own refusal, and functions that give them make the callers no shorter
+// all in all.
 #[tactic(auto, unfolding(crate::specs::Numbers::field_size))]
 pub fn is_field_size(size: u8) -> bool
     ensures { result ≡ field_size size }

@@ -129,7 +129,7 @@ fn deepen(info: &mut NodeInfo, record_count: u64, geometry: Geometry) -> Result<
     ensures found { IfOk result (λ depth. Found record_count geometry info.new depth) }
     ensures none { IfErr result (λ cause. refusal_of cause ≡ plan_answer record_count geometry) }
 {
-    // counted by hand, since no range has an end here: the depth is what is sought
+    // not by a `for` over the levels, which would need an answer behind it that is never given
     let mut depth: u16 = 0;
     while info.levels[depth as usize].cum_max_nrec < record_count {
         if info.levels[depth as usize].max_nrec == 0 {

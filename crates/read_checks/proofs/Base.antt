@@ -2,14 +2,12 @@
 use mathlib.Core.Path.{◌≡◌, refl}
 use mathlib.Core.Bool.{Bool, true, false}
 use mathlib.Core.List.{List, ◌++◌}
-use Prim.Native.Nat.{ℕ, ◌-◌, ◌≤◌, ◌<◌}
+use Prim.Native.Nat.{ℕ, ◌≤◌, ◌<◌}
 use native.Mathlib.Omega.{arith}
 use lib.Dec.{leb}
 use lib.ListN.{length, drop, length-append}
 use lib.Seq.{drop_at}
 use borrow.Author.Tests.{le-leb, lt-leb}
-use Rattle.numbers.specs.Numbers.{part}
-use Rattle.numbers.proofs.Lists.{part_rest}
 use Rattle.refusal.specs.Answer.{or_else}
 use Rattle.read_checks.specs.Base.{on_part}
 
@@ -40,7 +38,3 @@ module _ {A : Type 0} (refusal : A) (read : List ℕ → A) where
   pub on_part_behind : (block file : List ℕ) → on_part (block ++ file) (length block) refusal read ≡ read file
   on_part_behind block file =
       rw (on_part_within (block ++ file) (length block) (rw length-append (omega arith)), drop_at block file (length block) refl)
-
--- The part as it is lent on.
-pub lent_part : (file : List ℕ) (base : ℕ) → part file base (length file - base) ≡ drop base file
-lent_part file base = part_rest file base (length file - base) (omega arith)

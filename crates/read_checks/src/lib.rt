@@ -43,7 +43,8 @@ pub fn ensure_len(data: &[u8], at: u64, count: u64) -> Result<(), Refusal>
 pub fn has_signature(data: &[u8], at: usize, signature: &[u8; 4]) -> bool
     ensures { result ≡ same (part «data».now at 4) signature.now }
 {
-    at <= data.len() && data[at..].starts_with(signature)
+    data.get(at..)
+        .is_some_and(|rest| rest.starts_with(signature))
 }
 
 // The front of a node: its first 6 bytes are there, and it has this signature.

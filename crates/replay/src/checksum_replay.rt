@@ -14,7 +14,7 @@ pub(crate) fn published() -> Tally
 {
     let empty = checksum::jenkins_lookup3(b"") == 0xdeadbeef;
     let phrase = checksum::jenkins_lookup3(b"Four score and seven years ago") == 0x17770551;
-    Tally::new().with(empty).with(phrase)
+    Tally::default().with(empty).with(phrase)
 }
 
 // Whether the input of length n has the given checksum.
@@ -31,7 +31,7 @@ fn agrees(n: usize, answer: u32) -> bool
 pub(crate) fn stored() -> Tally
     ensures { result.agreed + result.differed ≡ 61 }
 {
-    let mut tally = Tally::new();
+    let mut tally = Tally::default();
     for (n, answer) in ANSWERS.iter().enumerate() {
         tally = tally.with(agrees(n, *answer));
     }

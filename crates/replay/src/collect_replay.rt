@@ -68,5 +68,5 @@ pub(crate) fn ends() -> Tally
         [6, 0xffffffff, 0x51d3ac40, 0, 0, 0, 0],
         b"\xee\xee\xee\xee\xee\xee\xee\xee",
     );
-    Tally::new().with(short).with(whole)
+    Tally::default().with(short).with(whole)
 }

@@ -103,7 +103,7 @@ fn counted(count: usize) -> [u64; 5]
 pub(crate) fn limits() -> Tally
     ensures { result.agreed + result.differed ≡ 4 }
 {
-    Tally::new()
+    Tally::default()
         .with(from(65415) == [0, 1, 3, 2, 120])
         .with(from(65416) == [14, 65416, 0, 0, 0])
         .with(counted(65535) == [0, 2, 136, 132, 69632])

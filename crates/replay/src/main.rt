@@ -1,7 +1,7 @@
 // Runs lists of known answers through the libraries; a line for each list says how many agreed and how many differed.
 // A part of the format has two modules here: NAME_answers holds the list, NAME_replay runs it and returns its tally. The functions that
-// compare an answer with a row (`agrees`, `leaf`), and `header` and `request`, which make a call's input of one, promise nothing of their
-// result: the answers due stand in the code alone, so a contract could only repeat it. `print` and `main` write, of which no contract speaks.
+// compare an answer with a row (`agrees`, `leaf`), and `request`, which makes a call's input of one, promise nothing of their result: the answers
+// due stand in the code alone, so a contract could only repeat it. `print`, `fmt` and `main` write, of which no contract speaks.
 // A list's numbers and its bytes stay two flat arrays, the text that rust/differential prints; the program sees them as rows and as parts.
 
 #![tactic(auto)]

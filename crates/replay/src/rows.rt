@@ -1,6 +1,7 @@
 // The numbers and bytes of a stored row, as a call's inputs.
 
-ghost use Rattle.std.specs.Prelude.{◌≡◌, ◌%◌, ◌≤◌, ◌++◌, length};
+ghost use Rattle.std.specs.Prelude.{◌≡◌, ◌%◌, ◌≤◌, ◌++◌, length, get_or};
+ghost use Rattle.header_figures.specs.Figures.{header_from};
 ghost use Rattle.replay.specs.Inputs.{bytes_of};
 
 use btree_v2_header::BTreeV2Header;
@@ -10,7 +11,7 @@ use node_info::Geometry;
 pub(crate) const MARK: u8 = 238;
 
 // A stored number as a byte, and as a number of 16 and of 32 bits; of a number above that, as the C functions cut it.
-// Three functions: no trait of the library cuts a number, and one of our own with three impls is no plainer.
+// Three functions, each by a remainder: the first of `to_le_bytes` are the same number, and no plainer; nor is a trait with three impls.
 pub(crate) fn byte(number: u64) -> u8
     ensures { result ≡ number % 256 }
 {
@@ -40,20 +41,12 @@ pub(crate) fn geometry(node_size: u64, record_size: u64, offset_size: u64) -> Ge
     }
 }
 
-// The first stored numbers as a header: tree type, node size, record size, depth, root address, root records, records in all, base, offset
-// size.
+// The first nine stored numbers as a header: its eight figures, and then its offset size.
 pub(crate) fn header(numbers: &[u64]) -> BTreeV2Header
     requires { 9 ≤ length numbers.now }
+    ensures { result ≡ header_from numbers.now (get_or numbers.now 8 0 % 256) }
 {
-    BTreeV2Header {
-        tree_type: byte(numbers[0]),
-        geometry: geometry(numbers[1], numbers[2], numbers[8]),
-        depth: number16(numbers[3]),
-        root_node_address: numbers[4],
-        num_records_in_root: number16(numbers[5]),
-        total_records: numbers[6],
-        base: numbers[7],
-    }
+    header_figures::header_of(numbers, byte(numbers[8]))
 }
 
 // Takes the next part off the front of the stored bytes: of its stored length, of `most` at the most, or what there is.
@@ -74,7 +67,7 @@ pub(crate) fn input<const N: usize>(n: u64) -> [u8; N]
 {
     let mut bytes = [0; N];
     for i in 0..N {
-        bytes[i] = ((7 * (i as u64 % 256) + 13 * (n % 256) + 1) % 256) as u8;
+        bytes[i] = byte(7 * (i as u64 % 256) + 13 * (n % 256) + 1);
     }
     bytes
 }

@@ -3,39 +3,31 @@
 ghost use Rattle.std.specs.Prelude.{◌≡◌, ◌+◌, ◌<◌, length};
 ghost use Rattle.replay.specs.Counted.{counted};
 
-use std::io;
+use std::{fmt, io};
 
-#[derive(Clone, Copy)]
+#[derive(Clone, Copy, Default)]
 pub(crate) struct Tally {
     pub(crate) agreed: u64,
     pub(crate) differed: u64,
 }
 
 impl Tally {
-    pub(crate) fn new() -> Self
-        ensures { (result.agreed ≡ 0) × (result.differed ≡ 0) }
-    {
-        Tally {
-            agreed: 0,
-            differed: 0,
-        }
-    }
-
     // One answer more, which agreed or differed.
     pub(crate) fn with(self, agrees: bool) -> Self
         requires { self.agreed + self.differed < 65536 }
         ensures value { result ≡ counted agrees self }
         ensures sum { result.agreed + result.differed ≡ self.agreed + self.differed + 1 }
     {
-        match agrees {
-            true => Tally {
+        if agrees {
+            Tally {
                 agreed: self.agreed + 1,
                 ..self
-            },
-            false => Tally {
+            }
+        } else {
+            Tally {
                 differed: self.differed + 1,
                 ..self
-            },
+            }
         }
     }
 
@@ -45,7 +37,7 @@ impl Tally {
         requires calls { F.IsAlwaysCallable agrees }
         ensures { result.agreed + result.differed ≡ length rows.now }
     {
-        let mut tally = Tally::new();
+        let mut tally = Tally::default();
         for row in rows {
             tally = tally.with(agrees(row));
         }
@@ -54,9 +46,12 @@ impl Tally {
 
     // Writes the list's name and the two counts, as a line.
     pub(crate) fn print(self, rt: HostRuntime, name: &str) -> io::Result<()> {
-        println!(rt;
-            "{name}: {} agreed, {} differed",
-            self.agreed, self.differed
-        )
+        println!(rt; "{name}: {self}")
+    }
+}
+
+impl fmt::Display for Tally {
+    fn fmt<W: fmt::Write>(&self, f: &mut fmt::Formatter<W>) -> fmt::Result {
+        write!(f, "{} agreed, {} differed", self.agreed, self.differed)
     }
 }

@@ -2,10 +2,13 @@
 use mathlib.Core.Path.{◌≡◌, refl, sym, ◌∙◌}
 use mathlib.Core.Bool.{Bool, true, false}
 use mathlib.Core.List.{List, []}
-use Prim.Native.Nat.{ℕ, ◌+◌, ◌-◌, ◌*◌, ◌^◌, ◌<◌}
+use Prim.Native.Nat.{ℕ, ◌+◌, ◌-◌, ◌*◌, ◌%◌, ◌^◌, ◌≤◌, ◌<◌}
+use native.Mathlib.Nat.{one-mul, mod-eq_of_lt}
 use native.Mathlib.Omega.{arith}
 use lib.Dec.{leb, eqb}
+use lib.Pow.{pow-lt, pow_mono}
 use Rattle.numbers.specs.Numbers.{field_size}
+use Rattle.numbers.proofs.Numbers.{field_size_le}
 use Rattle.refusal.specs.declared.Refusal.{Refusal}
 use Rattle.refusal.specs.Answer.{Answer, accepted, refused, refusal_of, or_else}
 use Rattle.refusal.proofs.Answers.{refused_is}
@@ -19,6 +22,18 @@ use Rattle.format.specs.Request.{nodes_of}
 use Rattle.write_checks.specs.Writing.{write_answer}
 use Rattle.write_checks.specs.declared.Lengths.{Lengths}
 use Rattle.write_checks.specs.Tests.{length_answer}
+
+-- `largest`: a power that fits 64 bits, and one that does not.
+pub power_low : (k : ℕ) → k < 64 → 1 * 2 ^ k % 2 ^ 64 ≡ 2 ^ k
+power_low k h = rw one-mul (mod-eq_of_lt (pow-lt h))
+
+pub power_high : (k : ℕ) → 64 ≤ k → 2 ^ 64 ≤ 2 ^ k
+power_high k h = pow_mono h
+
+-- That of a field's size fits.
+pub power_fits : (s : ℕ) → field_size s ≡ true → 2 ^ (8 * s) ≤ 2 ^ 64
+power_fits s e =
+    let few = field_size_le s e in pow_mono {i = 8 * s} {j = 64} (omega arith)
 
 -- Two chains of the same tests, the one ending in nothing, the other in `last`.
 record Alike (last x y : Answer) : Type 0 where

@@ -2,8 +2,8 @@
 
 #![tactic(auto)]
 
-ghost use Rattle.std.specs.Prelude.{◌≡◌, true, ◌-◌, ◌*◌, ◌^◌, ◌<◌};
-ghost use Rattle.numbers.specs.Numbers.{field_size};
+ghost use Rattle.std.specs.Prelude.{◌≡◌, ◌-◌, ◌*◌, ◌^◌, ◌≤◌, ◌<◌};
+ghost use Rattle.numbers.specs.Numbers.{saturated};
 ghost use Rattle.refusal.specs.Answer.{verdict_of};
 ghost use Rattle.write_checks.specs.Tests.{length_answer, Checked};
 
@@ -19,20 +19,19 @@ pub struct Lengths {
     pub image: u64,
 }
 
-// The largest number that a field of 2, 4 or 8 bytes holds.
-#[tactic(auto, unfolding(numbers::specs::Numbers::field_size))]
+// The largest number that a field of this size holds, or 2^64 - 1 where it holds more.
+#[tactic(auto, using(crate::proofs::Checking::power_low, crate::proofs::Checking::power_high))]
 fn largest(size: u8) -> u64
-    requires { field_size size ≡ true }
-    ensures { result ≡ 2 ^ (8 * size) - 1 }
+    ensures { result ≡ saturated (2 ^ (8 * size) - 1) }
 {
-    u64::MAX >> (64 - 8 * (size as u32))
+    1u64.checked_shl(8 * (size as u32))
+        .map_or(u64::MAX, |past| past - 1)
 }
 
 // Refusals 12 to 15, where a plan is accepted whose image has these bytes.
 #[tactic(auto, unfolding(crate::specs::Tests::length_answer))]
 fn test_lengths(request: Request, image_size: u64, lengths: Lengths) -> Result<(), Refusal>
-    requires offset { field_size request.geometry.offset_size ≡ true }
-    requires length { field_size request.length_size ≡ true }
+    requires offset { 2 ^ (8 * request.geometry.offset_size) ≤ 2 ^ 64 }
     requires few { request.record_count < 2 ^ 24 }
     ensures { verdict_of result ≡ length_answer request image_size lengths }
 {
@@ -58,7 +57,7 @@ fn test_lengths(request: Request, image_size: u64, lengths: Lengths) -> Result<(
 }
 
 // Every refusal of the call, decided from its numbers and the lengths of the lent buffers; accepted, the plan and its table.
-#[tactic(auto, unfolding(crate::specs::Writing::write_answer))]
+#[tactic(auto, using(crate::proofs::Checking::power_fits), unfolding(crate::specs::Writing::write_answer))]
 pub fn check(request: Request, lengths: Lengths) -> Result<PlanAndTable, Refusal>
     ensures { Checked request lengths result }
 {

@@ -2,11 +2,9 @@
 use Rattle.std.proofs.lemmas.Result.{err_from_is_err_and}
 use mathlib.Core.Path.{◌≡◌, refl, sym, ◌∙◌}
 use borrow.Author.Rules.{rules}
-use native.Mathlib.Nat.{min-eq_left}
-use native.Mathlib.Omega.{arith}
 use Rattle.std.specs.Prelude.{Ok, Err}
 use Rattle.btree_v2_collect.specs.Collecting.{nothing_read, no_tally}
-use Rattle.btree_v2_collect.proofs.Calls.{ends_empty, ends_refused, ends_read, root_sized, root_deep}
+use Rattle.btree_v2_collect.proofs.Calls.{ends_empty, ends_refused, ends_read}
 use Rattle.btree_v2_collect.proofs.Bases.{ends_beyond, ends_part}
 use Rattle.btree_v2_collect.proofs.collect.collect_tree.Goals as goal
 
@@ -19,7 +17,9 @@ returns-in_err-part c =
 pub returns-then-is_empty : goal.returns-then-is_empty
 returns-then-is_empty c =
     let within = c.in_ok-part.ensures.cases in
-    let zero : c.default.result ≡ no_tally = search rules in rw (c.ended.ensures.is, zero) (ends_part _ _ _ within.0 _ within.1 (nothing_read (Ok tt)) _ _ refl (ends_empty _ _ _ (sym c.is_empty.ensures ∙ c.if-is_empty.true)))
+    let zero : c.default.result ≡ no_tally = search rules in
+    rw (c.ended.ensures.is, zero)
+    (ends_part _ _ _ within.0 _ within.1 (nothing_read (Ok tt)) _ _ refl (ends_empty _ _ _ (sym c.is_empty.ensures ∙ c.if-is_empty.true)))
 
 pub returns-in_err-check_root : goal.returns-in_err-check_root
 returns-in_err-check_root c =
@@ -27,11 +27,6 @@ returns-in_err-check_root c =
     let within = c.in_ok-part.ensures.cases in
     rw (given.1, given.2)
     (ends_part _ _ _ within.0 _ within.1 (nothing_read (Err _)) _ _ refl (ends_refused _ _ _ (sym c.is_empty.ensures ∙ c.if-is_empty.false) _ c.check_root.ensures _ c.in_err-check_root.was))
-
-pub invariant_of-tree : goal.invariant_of-tree
-invariant_of-tree c =
-    let deep = root_deep _ _ _ c.check_root.ensures c.in_ok-check_root.was in
-    record { sized = root_sized _ _ _ c.check_root.ensures c.in_ok-check_root.was; deep = deep; table = rw (min-eq_left deep) at c.fill.ensures }
 
 pub returns : goal.returns
 returns c =

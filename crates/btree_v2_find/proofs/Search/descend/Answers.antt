@@ -8,15 +8,15 @@ pub returns-in_err-check : goal.returns-in_err-check
 returns-in_err-check c =
     let out = err_from_is_err_and c.from_residual.result c.from_residual.ensures.1 in
     rw (out.1, out.2)
-    (internal_stops _ _ _ _ _ _ c.loop-level.invariant _ c.requires.table c.requires.deep c.loop-level-test.true _ c.pointer_to.ensures _ c.in_err-check.ensures)
+    (internal_stops _ _ _ _ _ _ c.loop-level.invariant _ c.requires.table c.requires.deep c.loop-level-test.true _ c.new-internal.ensures _ c.in_err-check.ensures)
 
 pub step-step-requires : goal.step-step-requires
 step-step-requires c =
-    internal_there _ _ _ _ _ _ c.loop-level.invariant _ c.requires.table c.requires.deep c.loop-level-test.true _ c.pointer_to.ensures c.in_ok-check.ensures
+    internal_there _ _ _ _ _ _ c.loop-level.invariant _ c.requires.table c.requires.deep c.loop-level-test.true _ c.new-internal.ensures c.in_ok-check.ensures
 
 pub loop-level-preserved : goal.loop-level-preserved
 loop-level-preserved c =
-    internal_turn _ _ _ _ _ _ c.loop-level.invariant _ c.requires.table c.requires.deep c.loop-level-test.true _ c.pointer_to.ensures c.in_ok-check.ensures
+    internal_turn _ _ _ _ _ _ c.loop-level.invariant _ c.requires.table c.requires.deep c.loop-level-test.true _ c.new-internal.ensures c.in_ok-check.ensures
     _ c.step-step.ensures.child _ c.step-step.ensures.place _ c.or-kept.ensures _ c.child-node.ensures.address c.child-node.ensures.records
 
 pub returns-in_err-check-2 : goal.returns-in_err-check-2

@@ -9,4 +9,4 @@ pub returns : goal.returns
 returns c =
     let tree = c.args.self.now in
     let internal : ChildPointer → Internal = λ p. record { node = c.args.node; record_size = tree.geometry.record_size; pointer = p } in
-    ap internal (c.pointer_to.ensures ∙ pointer_entry tree.geometry tree.depth tree.info.now tree.table c.args.under c.requires tree.deep tree.geometry.offset_size)
+    c.new.ensures ∙ ap internal (pointer_entry tree.geometry tree.depth tree.info.now tree.table c.args.under c.requires tree.deep tree.geometry.offset_size)

@@ -2,7 +2,7 @@
 -- gives all of it.
 use native.Mathlib.Omega.{arith}
 use borrow.Author.Rules.{rules}
-use Rattle.btree_v2_write.proofs.Subtrees.{leaf_room, leaf_fits, leaf_done, kept_fits, first_asked, now_distributed, first_next_fits, first_after_fits}
+use Rattle.btree_v2_write.proofs.Subtrees.{leaf_room, leaf_fits, whole_node, leaf_done, kept_fits, first_asked, now_distributed, first_next_fits, first_after_fits}
 use Rattle.btree_v2_write.proofs.Subtrees.{loop_start, kid_ready, kid_next_fits, kid_after_fits, loop_turn, next_fits, next_least, root_fits, root_room, root_done}
 use Rattle.btree_v2_write.proofs.node.Writing.+write_subtree.Goals as goal
 
@@ -12,7 +12,7 @@ pub write_leaf-requires : goal.write_leaf-requires
 write_leaf-requires t c = search (leaf_room, leaf_fits, rules)
 
 pub returns-then-depth-eq0 : goal.returns-then-depth-eq0
-returns-then-depth-eq0 t c = search leaf_done
+returns-then-depth-eq0 t c = search (leaf_done, whole_node)
 
 pub write_subtree-large-requires : goal.write_subtree-large-requires
 write_subtree-large-requires t c = (omega arith, search first_asked)
@@ -59,4 +59,4 @@ pub returns : goal.returns
 returns t c =
     root_done
     c.loop-i.invariant c.loop-i-test.false _ c.pointer_to.ensures c.share.ensures
-    c.write_subtree-large.auto.image c.write_subtree-large.ensures c.whole-2.ensures c.write_internal.ensures
+    c.write_subtree-large.auto.image c.write_subtree-large.ensures whole_node c.write_internal.ensures
