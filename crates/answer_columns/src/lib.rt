@@ -36,7 +36,8 @@ fn put_columns(columns: &mut [u64], levels: &[Level; 33])
     }
 }
 
-// The capacity table, or why there is none.
+// The capacity table, or why there is none. Not by the `numbers_of` of answers: that has no line less, and table and answer, 1.6 KB,
+// would be copied.
 #[tactic(auto, using(crate::proofs::Table::table_told))]
 pub fn put_node_info(answer: &mut [u64; 101], computed: &Result<NodeInfo, Refusal>)
     ensures { answer.new ≡ cells 101 (table_answer computed.now) }

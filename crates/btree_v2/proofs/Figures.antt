@@ -15,13 +15,11 @@ use Rattle.btree_v2_header.specs.declared.BTreeV2Header.{BTreeV2Header}
 use Rattle.btree_v2_header.specs.Header.{header_figures, header_at, with_base, parsed, parsed_at}
 use Rattle.btree_v2_header.proofs.Bases.{cells_whole}
 use Rattle.btree_v2_header.specs.Answers.{Parses}
-use Rattle.btree_v2_collect.specs.Collect.{collected, collected_at}
-use Rattle.btree_v2_collect.proofs.Bases.{collected_whole}
 use Rattle.btree_v2_find.specs.Find.{found, found_at}
 use Rattle.btree_v2_find.proofs.Bases.{found_whole}
 use Rattle.btree_v2_leaf_view.specs.Look.{record_answer, record_exit, record_answer_at, record_exit_at}
 use Rattle.btree_v2_leaf_view.proofs.Bases.{look_whole}
-use Rattle.header_figures.specs.Figures.{sizes, given, header_from}
+use Rattle.header_figures.specs.Figures.{header_from}
 
 -- Numbers of a header that are within their fields' ranges.
 pub record InRange (h : BTreeV2Header) : Type 0 where
@@ -60,15 +58,6 @@ module _ (file : List ℕ) where
   -- Eight numbers of a header read.
   pub parse_whole : (o ow lw : ℕ) → take 8 (cells 9 (parsed_at file 0 o ow lw)) ≡ cells 8 (parsed file o ow lw)
   parse_whole o ow lw = cells_front 8 (parsed_at file 0 o ow lw) ∙ cells_whole 8 file o ow lw
-
-  -- A header's numbers as figures.
-  pub collect_whole : (t ns rs depth root count total ow : ℕ) (out : List ℕ) → t < 2 ^ 8 → ns < 2 ^ 32 → rs < 2 ^ 16 → depth < 2 ^ 16 → count < 2 ^ 16
-      → collected_at file (header_from (t ∷ ns ∷ rs ∷ depth ∷ root ∷ count ∷ total ∷ 0 ∷ []) ow) out ≡ collected file (given t (sizes ns rs ow) depth root count total 0) out
-  collect_whole t ns rs depth root count total ow out t_fits ns_fits rs_fits depth_fits count_fits =
-      let h : BTreeV2Header = given t (sizes ns rs ow) depth root count total 0 in
-      rw
-      (told_as_read h (record { tree_type = t_fits; node_size = ns_fits; record_size = rs_fits; depth = depth_fits; root_records = count_fits }))
-      (collected_whole h out file refl)
 
   -- Of seven figures the base is 0.
   pub find_whole : (l : List ℕ) (ow : ℕ) (f : Field) (x : ℕ) → length l ≡ 7 → found_at file (header_from l ow) f x ≡ found file (header_from l ow) f x

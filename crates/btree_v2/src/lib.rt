@@ -19,7 +19,7 @@ ghost use Rattle.header_figures.specs.Figures.{sizes, given, header_from};
 
 use btree_v2_collect::collect;
 use btree_v2_header::BTreeV2Header;
-use btree_v2_leaf::Leaf;
+use btree_v2_leaf::{Leaf, Node};
 use btree_v2_leaf_view::copy_leaf_record;
 use btree_v2_record::RecordValues;
 use field::Field;
@@ -157,7 +157,7 @@ pub extern "C" fn btree_v2_collect_at(
     *answer = answers::collected_numbers(collected);
 }
 
-#[tactic(auto, using(crate::proofs::Figures::collect_whole))]
+#[tactic(auto, using(btree_v2_collect::proofs::Bases::collected_whole))]
 #[unsafe(no_mangle)]
 pub extern "C" fn btree_v2_collect(
     file: &[u8],
@@ -177,17 +177,21 @@ pub extern "C" fn btree_v2_collect(
     ensures output_left { output.new ≡ run_output (collected file.now
         (given tree_type (sizes node_size record_size offset_size) depth root_address root_records total_records 0) output.old) }
 {
-    let header = [
-        tree_type as u64,
-        node_size as u64,
-        record_size as u64,
-        depth as u64,
-        root_address,
-        root_records as u64,
+    let geometry = Geometry {
+        node_size,
+        record_size,
+        offset_size,
+    };
+    let header = BTreeV2Header {
+        tree_type,
+        geometry,
+        depth,
+        root_node_address: root_address,
+        num_records_in_root: root_records,
         total_records,
-        0,
-    ];
-    btree_v2_collect_at(file, &header, offset_size, output, answer);
+        base: 0,
+    };
+    *answer = answers::collected_numbers(collect::collect_btree_v2_records(file, header, output));
 }
 
 // The record with the key sought in this field, by the header that the figures tell.
@@ -257,12 +261,11 @@ pub extern "C" fn btree_v2_leaf_record_at(
     ensures answered { answer.new ≡ cells 3 (record_answer_at file.now base record_size address count index output.old) }
     ensures output_left { output.new ≡ record_exit_at file.now base record_size address count index output.old }
 {
-    let leaf = Leaf {
+    let node = Node {
         address,
-        count,
-        record_size,
+        records: count,
     };
-    let copied = copy_leaf_record(file, base, leaf, index, output);
+    let copied = copy_leaf_record(file, base, Leaf::new(node, record_size), index, output);
     *answer = answers::numbers_of(copied);
 }
 

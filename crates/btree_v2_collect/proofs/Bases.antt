@@ -1,5 +1,4 @@
 -- Collecting with a base: the whole call, base 0, a block in front, and a base beyond the file.
-use Rattle.std.specs.Prelude.{Err}
 use mathlib.Core.Path.{◌≡◌, refl}
 use mathlib.Core.Bool.{Bool, true, false}
 use mathlib.Core.List.{List, [], ◌++◌}
@@ -12,15 +11,10 @@ use borrow.Author.Tests.{leb-true}
 use Rattle.refusal.specs.Answer.{or_else}
 use Rattle.read_checks.specs.Base.{on_part}
 use Rattle.read_checks.proofs.Base.{on_part_by, on_part_within, on_part_beyond, on_part_whole, on_part_behind}
-use Rattle.refusal.specs.declared.Refusal.TheVariants.{BaseBeyondFile}
 use Rattle.btree_v2_header.specs.Header.{with_base}
 use Rattle.btree_v2_header.specs.declared.BTreeV2Header.{BTreeV2Header}
 use Rattle.btree_v2_collect.specs.Walk.{Counts, fine, stopped, no_counts}
 use Rattle.btree_v2_collect.specs.Collect.{collected, collected_at}
-use Rattle.btree_v2_collect.specs.Answers.{Ends}
-use Rattle.btree_v2_collect.specs.Collecting.{nothing_read}
-use Rattle.btree_v2_collect.specs.declared.Collected.{Collected}
-use Rattle.btree_v2_collect.proofs.Calls.{ends_so}
 use Rattle.btree_v2_collect.proofs.Fronts.{run_counts, Fronted, stays, collected_fronted}
 
 module _ (h : BTreeV2Header) (out : List ℕ) where
@@ -72,12 +66,3 @@ within_at file h out = (fronted_at file h out).room (rw zero-mul zero-le)
 pub collected_based : (file : List ℕ) (h : BTreeV2Header) (base : ℕ) (out : List ℕ) → collected file (with_base base h) out ≡ collected file h out
 unfolding collected
 collected_based file h base out = refl
-
--- The call, by whether there is a part from the base on.
-module _ (file : List ℕ) (h : BTreeV2Header) (out : List ℕ) where
-  pub ends_beyond : length file < h.base → Ends (collected_at file h out) (nothing_read (Err BaseBeyondFile)) out
-  ends_beyond beyond = ends_so (Err BaseBeyondFile) out _ (collected_beyond h out file beyond)
-
-  pub ends_part : h.base ≤ length file → (part : List ℕ) → part ≡ drop h.base file → (r : Collected) (o exit : List ℕ) → exit ≡ o → Ends (collected part h out) r o
-      → Ends (collected_at file h out) r exit
-  ends_part within part e r o exit same read = rw (collected_in_part h out file within, same) (rw e at read)

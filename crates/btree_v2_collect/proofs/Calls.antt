@@ -3,24 +3,21 @@ use Rattle.std.specs.Prelude.{Result, Ok, Err, ⊤}
 use mathlib.Core.Path.{◌≡◌, refl, sym, ap, ◌∙◌}
 use mathlib.Core.List.{List, [], ◌∷◌, ◌++◌}
 use Prim.Native.Nat.{ℕ, ◌^◌, ◌<◌}
-use Prim.Native.Nat.{◌≤◌, ◌<◌}
-use native.Mathlib.Omega.{arith}
-use mathlib.Core.Bool.{true, false}
+use mathlib.Core.Bool.{true}
 use Rattle.numbers.proofs.Numbers.{saturated_small}
 use Rattle.refusal.specs.declared.Refusal.{Refusal}
-use Rattle.refusal.specs.Answer.{cells, verdict_of}
-use Rattle.btree_v2_internal.specs.declared.Node.{Node}
+use Rattle.refusal.specs.Answer.{accepted, refusal_of, cells, verdict_of}
 use Rattle.refusal.proofs.Answers.{refused_is}
-use Rattle.btree_v2_collect.specs.Walk.{Run, fine, stopped, if_passed, no_counts, node_run}
-use Rattle.btree_v2_collect.specs.Collect.{collected, collect_tests, count_cells, run_cells, run_output}
-use Rattle.btree_v2_collect.proofs.Outcomes.{collected_empty, collected_root}
-use Rattle.read_checks.specs.Tests.{no_records, root_test}
-use Rattle.read_checks.proofs.Root.{Rooted, root_passed}
+use Rattle.btree_v2_collect.specs.Walk.{Run, fine, stopped, if_passed, no_counts}
+use Rattle.btree_v2_collect.specs.Collect.{collected_at, count_cells, run_cells, run_output}
+use Rattle.btree_v2_collect.proofs.Outcomes.{collected_opens}
 use Rattle.btree_v2_header.specs.declared.BTreeV2Header.{BTreeV2Header}
 use Rattle.btree_v2_collect.specs.declared.Tally.{Tally}
 use Rattle.btree_v2_collect.specs.declared.Collected.{Collected}
 use Rattle.btree_v2_collect.specs.Answers.{Ends, collected_cells}
-use Rattle.btree_v2_collect.specs.Collecting.{counts_of, nothing_read, run_of, saturated_run, Walked}
+use Rattle.btree_v2_collect.specs.Collecting.{counts_of, nothing_read, run_of, saturated_run, Walked, node_walk}
+use Rattle.btree_v2_collect.specs.Opening.{nothing_in, opening, Opened}
+use Rattle.btree_v2_collect.specs.declared.tree.Tree.{Tree}
 use Rattle.btree_v2_collect.proofs.Holding.{saturated_saturated}
 
 -- Held counts or exact ones: the same cells and output.
@@ -62,28 +59,17 @@ unfolding run_cells
 ends_so (Ok _) o x e = rw e (refl, refl)
 ends_so (Err q) o x e = rw (e, (refused_is q).2) (refl, refl)
 
--- A tree without records, one that the tests before the root refuse, and one that they pass.
+-- The call, by what opening the tree gives.
 module _ (file : List ℕ) (h : BTreeV2Header) (o : List ℕ) where
-  pub ends_empty : no_records h.total_records h.num_records_in_root ≡ true → Ends (collected file h o) (nothing_read (Ok tt)) o
-  ends_empty e = ends_so (Ok tt) o _ (collected_empty file h o e)
+  pub ends_refused : (q : Refusal) → refusal_of q ≡ opening file h → Ends (collected_at file h o) (nothing_read (Err q)) o
+  ends_refused q e = ends_so (Err q) o _ (collected_opens file h o ∙ rw (← e, (refused_is q).2))
 
-  module _ (some : no_records h.total_records h.num_records_in_root ≡ false) (v : Result ⊤ Refusal)
-      (tested : verdict_of v ≡ root_test h.geometry.record_size h.depth) where
-    pub ends_refused : (q : Refusal) → v ≡ Err q → Ends (collected file h o) (nothing_read (Err q)) o
-    ends_refused q e = ends_so (Err q) o _ (collected_root file h o some ∙ rw (← tested, e, (refused_is q).2))
+  module _ (passes : accepted [] ≡ opening file h) where
+    pub ends_empty : true ≡ nothing_in h → Ends (collected_at file h o) (nothing_read (Ok tt)) o
+    ends_empty none = ends_so (Ok tt) o _ (collected_opens file h o ∙ rw (← passes, ← none))
 
     -- From the root on: the walk, told by its own end.
-    pub ends_read : v ≡ Ok tt → (root : Node) → root.address ≡ h.root_node_address → root.records ≡ h.num_records_in_root → (r : Collected) (o1 : List ℕ)
-        → Ends (node_run file h.geometry (collect_tests file h.geometry) h.depth root.address root.records no_counts o) r o1 → Ends (collected file h o) r o1
-    ends_read e root address records r o1 read = rw (collected_root file h o some, ← tested, e, ← address, ← records) read
-
--- What passed the tests before the root.
-module _ (rs depth : ℕ) (v : Result ⊤ Refusal) (tested : verdict_of v ≡ root_test rs depth) (passed : v ≡ Ok tt) where
-  rooted : Rooted rs depth
-  rooted = root_passed rs depth (sym tested ∙ ap verdict_of passed)
-
-  pub root_sized : 0 < rs
-  root_sized = omega (arith, rooted.sized)
-
-  pub root_deep : depth ≤ 32
-  root_deep = rooted.deep
+    pub ends_read : (t : Tree) → Opened file h t → (r : Collected) (o1 : List ℕ)
+        → Ends (node_walk t.file.now t.geometry t.depth t.root.address t.root.records no_counts o) r o1 → Ends (collected_at file h o) r o1
+    ends_read t is r o1 read =
+        rw (collected_opens file h o, ← passes, ← is.some, ← is.part, ← is.address, ← is.records, ← is.geometry, ← is.depth) read

@@ -25,9 +25,6 @@ counts_twice c = simp saturated_saturated
 pub record Alike (f : Step) : Type 0 where
   pub same : (c : Counts) (o : List ℕ) → saturated_run (f (saturated_counts c) o) ≡ saturated_run (f c o)
 
-pub records_saturated : (c c1 : Counts) → saturated_counts c1 ≡ saturated_counts c → c1.records ≡ c.records
-records_saturated c c1 e = ap (λ (x : Counts). x.records) e
-
 module _ {f : Step} (h : Alike f) where
   -- So from counts that are the same once saturated it ends alike.
   pub from_saturated : (c c1 : Counts) (o : List ℕ) → saturated_counts c1 ≡ saturated_counts c → saturated_run (f c1 o) ≡ saturated_run (f c o)

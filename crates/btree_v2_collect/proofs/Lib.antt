@@ -2,6 +2,7 @@
 pub mod Reached
 pub mod Changed
 mod Calls
+mod Opening
 pub mod Bases
 mod Holding
 mod Putting

@@ -4,10 +4,10 @@ use mathlib.Core.List.{List}
 use mathlib.Core.Path.{◌≡◌, ◌∙◌, subst}
 use Prim.Native.Nat.{ℕ, ◌+◌, ◌-◌, ◌≤◌, ◌<◌}
 use Rattle.refusal.specs.declared.Refusal.{Refusal}
-use Rattle.btree_v2_collect.specs.declared.collect.Tree.{Tree}
+use Rattle.btree_v2_collect.specs.declared.tree.Tree.{Tree}
 use Rattle.btree_v2_collect.specs.declared.collect.Walk.{Walk}
 use Rattle.node_info.specs.declared.Geometry.{Geometry}
-use Rattle.btree_v2_internal.specs.declared.Node.{Node}
+use Rattle.read_checks.specs.declared.Node.{Node}
 use Rattle.btree_v2_internal.specs.declared.Internal.{Internal}
 use Rattle.btree_v2_internal.specs.Pointers.{address_at, records_at}
 use Rattle.btree_v2_collect.specs.declared.Tally.{Tally}

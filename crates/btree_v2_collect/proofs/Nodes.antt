@@ -17,7 +17,7 @@ use Rattle.node_info.specs.Table.{pointer_size}
 use Rattle.btree_v2_leaf.specs.Leaf.{leaf_test}
 use Rattle.btree_v2_leaf.proofs.Records as Records
 use Rattle.btree_v2_collect.specs.Collect.{collect_tests}
-use Rattle.btree_v2_internal.specs.declared.Node.{Node}
+use Rattle.read_checks.specs.declared.Node.{Node}
 use Rattle.btree_v2_internal.specs.Pointers.{pointer_at, address_at, records_at}
 use Rattle.btree_v2_internal.proofs.Nodes.{internal_there, fields_walked}
 use Rattle.btree_v2_internal.specs.declared.Internal.{Internal}
@@ -85,9 +85,6 @@ module _ (file : List ℕ) (g : Geometry) (a n : ℕ) (there : record_place g a 
   module _ (l : length file < 2 ^ 64) where
     pub begin_fits : Fits w64 (a + 6)
     begin_fits = omega (arith, record_there)
-
-    pub record_place_lem : Fits w64 (record_place g a i)
-    record_place_lem = omega (arith, record_there)
 
 -- All children of a node that passed its tests are left.
 pub all_left : (file : List ℕ) (g : Geometry) (depth d : ℕ) (node : Node) (x : Internal) → x ≡ internal_at g d node → NodeThere file g node.address node.records

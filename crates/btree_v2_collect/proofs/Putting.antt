@@ -2,8 +2,8 @@
 use Rattle.std.specs.Prelude.{Ok, Err}
 use mathlib.Core.Path.{◌≡◌}
 use mathlib.Core.List.{List}
-use Prim.Native.Nat.{ℕ, ◌+◌, ◌-◌, ◌*◌, ◌/◌, ◌≤◌, ◌<◌}
-use native.Mathlib.Nat.{add-zero, add-mul, add-sub_cancel_left, mul-le-mul_right, div-mul-le_self, div-lt_iff_lt-mul, le_refl}
+use Prim.Native.Nat.{ℕ, ◌+◌, ◌-◌, ◌*◌, ◌≤◌, ◌<◌}
+use native.Mathlib.Nat.{add-zero, add-mul, add-sub_cancel_left, mul-le-mul_right}
 use lib.Seq.{drop-drop}
 use native.Mathlib.Omega.{arith}
 use lib.ListN.{length}
@@ -22,17 +22,6 @@ use Rattle.node_info.specs.declared.Geometry.{Geometry}
 -- How many records fit.
 abbrev pub Fitting : ℕ → ℕ → ℕ → ℕ → Type 0
 Fitting n k room r = (r ≤ n) × (r * k ≤ room) × (r < n → room < (r + 1) * k)
-
-module _ (n k room : ℕ) (some : 0 < k) where
-  pub fitting_all : n * k ≤ room → Fitting n k room n
-  fitting_all h = (le_refl n, h, λ l. omega arith)
-
-  pub fitting_some : room < n * k → Fitting n k room (room / k)
-  fitting_some h = (
-    omega (arith, (div-lt_iff_lt-mul {k = k} {x = room} {y = n} some).1 h),
-    div-mul-le_self room k,
-    λ l. (div-lt_iff_lt-mul {k = k} {x = room} {y = room / k + 1} some).0 (omega arith),
-  )
 
 -- Bytes put at a place where they fit.
 put_mid_stored : (o b d : List ℕ) (at k : ℕ) → d ≡ b → length b ≡ k → at + k ≤ length o → put_mid at k o d ≡ stored o at b

@@ -30,7 +30,7 @@ module _ (file : List ℕ) (g : Geometry) (tests : Tests) where
       → run_from (children d a n (suc left) i) c o ≡ and_then (child_and_record d a n i c o) (run_from (children d a n left (i + 1)))
   unfolding children_run
   run_next d a n left i c o =
-      sym (then_then file g (child_run file g tests d a n (node_run file g tests d) i c o) (own_record_run file g a i) (run_from (children d a n left (i + 1))))
+      sym (then_then (child_run file g tests d a n (node_run file g tests d) i c o) (own_record_run file g a i) (run_from (children d a n left (i + 1))))
 
   -- The walk from a place on, with these counts and this output, reaches the leaf at b with m records, with the counts c1 and the output o1.
   pub data Reaches (b m : ℕ) (c1 : Counts) (o1 : List ℕ) : Place → Counts → List ℕ → Type 0 where

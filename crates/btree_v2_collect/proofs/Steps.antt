@@ -7,14 +7,16 @@ use native.Mathlib.Nat.{zero-add, add-zero, suc-add}
 use native.Mathlib.Omega.{arith}
 use Rattle.refusal.specs.declared.Refusal.{Refusal}
 use Rattle.refusal.specs.Answer.{Answer, verdict_of}
-use Rattle.btree_v2_collect.specs.Walk.{Counts, Run, fine, stopped, and_then, if_passed, with_leaf, with_internal, with_internal_record, Tests, put_record, records_put, leaf_run, child_run, own_record_run, children_run, node_run, record_place, pointer_to}
+use Rattle.btree_v2_collect.specs.Walk.{Counts, Run, fine, stopped, and_then, if_passed, with_leaf, with_internal, with_internal_record}
+use Rattle.btree_v2_collect.specs.Walk.{Tests, put_record, records_put, leaf_run, child_run, own_record_run, children_run, node_run, record_place, pointer_to}
 use Rattle.node_info.specs.declared.Geometry.{Geometry}
-use Rattle.btree_v2_internal.specs.declared.Node.{Node}
+use Rattle.read_checks.specs.declared.Node.{Node}
 use Rattle.btree_v2_internal.specs.declared.Internal.{Internal}
 use Rattle.btree_v2_collect.specs.declared.Tally.{Tally}
 use Rattle.btree_v2_collect.specs.Collecting.{counts_of, run_of, saturated_run, internal_at, ChildAt, Walked}
 use Rattle.refusal.proofs.Answers.{refused_is}
 use Rattle.numbers.specs.Numbers.{saturated}
+use Rattle.btree_v2_collect.proofs.Outcomes.{then_then}
 use Rattle.btree_v2_collect.proofs.Holding.{Alike, saturated_saturated, from_saturated, alike_after, count_alike, puts_alike, after_alike, own_record_alike, children_alike}
 use Rattle.btree_v2_collect.proofs.Walking.{Step}
 
@@ -49,21 +51,6 @@ then_same : (x : Run) (next : Counts → List ℕ → Run) → ((c : Counts) (o 
 then_same (fine c o) next h = h c o
 then_same (stopped number values c o) next h = refl
 
--- Steps are grouped as one likes.
-module _ (f g h : Counts → List ℕ → Run) where
-  then_two : (x : Run) → and_then x (λ c o. and_then (f c o) g) ≡ and_then (and_then x f) g
-  then_two (fine c o) = refl
-  then_two (stopped number values c o) = refl
-
-  then_three : (x : Run) → and_then x (λ c o. and_then (and_then (f c o) g) h) ≡ and_then (and_then (and_then x f) g) h
-  then_three (fine c o) = refl
-  then_three (stopped number values c o) = refl
-
-  then_four : (e : Counts → List ℕ → Run) (x : Run)
-      → and_then x (λ c o. and_then (e c o) (λ c1 o1. and_then (and_then (f c1 o1) g) h)) ≡ and_then (and_then (and_then x (λ c o. and_then (e c o) f)) g) h
-  then_four e (fine c o) = then_three (e c o)
-  then_four e (stopped number values c o) = refl
-
 -- The first m + 1 of some children, the record between, and the k + 1 others.
 module _ (file : List ℕ) (g : Geometry) (tests : Tests) (d a n : ℕ) (node : ℕ → ℕ → Counts → List ℕ → Run) where
   abbrev run : ℕ → ℕ → Counts → List ℕ → Run
@@ -75,13 +62,15 @@ module _ (file : List ℕ) (g : Geometry) (tests : Tests) (d a n : ℕ) (node : 
   children_split : (m k i : ℕ) (c : Counts) (o : List ℕ)
       → run (m + suc k) i c o ≡ and_then (and_then (run m i c o) (between (i + m))) (run k (i + m + 1))
   unfolding children_run
-  children_split zero k i c o = rw (zero-add, add-zero) (then_two (between i) (run k (i + 1)) fine (child_run file g tests d a n node i c o))
+  children_split zero k i c o = rw (zero-add, add-zero, then_then)
   children_split (suc m) k i c o =
       let e : i + 1 + m ≡ i + suc m = omega arith in
-      rw (suc-add, ← e)
-      (ap (λ f. and_then (child_run file g tests d a n node i c o) (λ c1 o1. and_then (between i c1 o1) f))
-      (fun_ext (λ c1. fun_ext (children_split m k (i + 1) c1)))
-      ∙ then_four (run m (i + 1)) (between (i + 1 + m)) (run k (i + 1 + m + 1)) (between i) (child_run file g tests d a n node i c o))
+      rw (suc-add, ← e, then_then, then_then)
+      (ap (and_then (child_run file g tests d a n node i c o))
+      (fun_ext (λ c1. fun_ext (λ o1.
+      ap (and_then (between i c1 o1))
+      (fun_ext (λ c2. fun_ext (λ o2. children_split m k (i + 1) c2 o2 ∙ then_then (run m (i + 1) c2 o2) (between (i + 1 + m)) (run k (i + 1 + m + 1)))))
+      ∙ sym (then_then (between i c1 o1) (run m (i + 1)) _)))))
 
 -- Depth and records left, as one number: a node has at most 65,535 records, and a half of them is less than all.
 abbrev pub falling : ℕ → ℕ → ℕ

@@ -1,8 +1,6 @@
 -- What collecting's answer says, in the terms of the format's definitions.
-use Rattle.std.specs.Prelude.{Result, Ok, Err, ℕ, ◌≡◌, List, [], ◌∷◌, ◌++◌}
+use Rattle.std.specs.Prelude.{ℕ, ◌≡◌, List, [], ◌∷◌, ◌++◌}
 use Rattle.refusal.specs.Answer.{cells, verdict_of}
-use Rattle.refusal.specs.declared.Refusal.{Refusal}
-use Rattle.btree_v2_collect.specs.Collecting.{nothing_read}
 use Rattle.btree_v2_collect.specs.Walk.{Run}
 use Rattle.btree_v2_collect.specs.Collect.{run_cells, run_output}
 use Rattle.btree_v2_collect.specs.declared.Collected.{Collected}
@@ -16,8 +14,3 @@ collected_cells r =
 -- A walk that ends as x, told by an answer and an output.
 abbrev pub Ends : Run → Collected → List ℕ → Type 0
 Ends x r o = (collected_cells r ≡ run_cells x) × (o ≡ run_output x)
-
--- The answer of a call that collects, or is refused before it has read anything.
-abbrev pub told : Result Collected Refusal → Collected
-told (Ok r) = r
-told (Err q) = nothing_read (Err q)

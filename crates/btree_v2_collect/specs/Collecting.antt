@@ -10,7 +10,7 @@ use Rattle.btree_v2_collect.specs.Collect.{collect_tests}
 use Rattle.refusal.specs.Answer.{verdict_of}
 use Rattle.btree_v2_collect.specs.declared.Tally.{Tally}
 use Rattle.btree_v2_collect.specs.declared.Collected.{Collected}
-use Rattle.btree_v2_internal.specs.declared.Node.{Node}
+use Rattle.read_checks.specs.declared.Node.{Node}
 use Rattle.btree_v2_internal.specs.declared.Internal.{Internal}
 
 -- The counts of a tally of four numbers.

@@ -5,3 +5,4 @@ pub mod Walk
 pub mod InFile
 pub mod Collect
 pub mod State
+pub mod Opening

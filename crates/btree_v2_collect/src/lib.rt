@@ -5,6 +5,7 @@
 use refusal::Refusal;
 
 pub mod collect;
+pub mod tree;
 
 // Records put out, leaves read, internal nodes read, and records from internal nodes, each saturated at 2^64 - 1.
 #[derive(Clone, Copy, Default)]

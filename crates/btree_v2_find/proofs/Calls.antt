@@ -1,20 +1,23 @@
 -- Seeking in the part of a file from the header's base on: the refusals before the root, and the descent.
-use mathlib.Core.Path.{◌≡◌, refl, sym, ◌∙◌}
-use mathlib.Core.Bool.{Bool, true, false}
+use mathlib.Core.Path.{◌≡◌, refl}
+use mathlib.Core.Bool.{Bool, true, false, not}
+use lib.Dec.{leb}
 use mathlib.Core.List.{List, []}
-use Prim.Native.Nat.{ℕ, ◌≤◌, ◌<◌}
+use Prim.Native.Nat.{ℕ}
 use lib.ListN.{length, drop}
 use Rattle.std.specs.Prelude.{Option, None, Result, Ok, Err}
-use Rattle.refusal.specs.Answer.{accepted, refusal_of}
+use Rattle.refusal.specs.Answer.{accepted, refused, or_else, refusal_of}
 use Rattle.refusal.specs.declared.Refusal.{Refusal}
-use Rattle.refusal.specs.declared.Refusal.TheVariants.{InvalidKeyField, BaseBeyondFile}
+use Rattle.refusal.specs.declared.Refusal.TheVariants.{InvalidKeyField}
 use Rattle.refusal.proofs.Answers.{refused_is}
 use Rattle.field.specs.declared.Field.{Field}
 use Rattle.field.specs.Field.{number_field}
 use Rattle.read_checks.specs.Tests.{no_records, root_test}
-use Rattle.read_checks.proofs.Base.{on_part_within, on_part_beyond}
+use Rattle.read_checks.specs.Base.{on_part}
 use Rattle.btree_v2_header.specs.declared.BTreeV2Header.{BTreeV2Header}
 use Rattle.btree_v2_collect.specs.Collect.{collect_tests}
+use Rattle.btree_v2_collect.specs.Opening.{nothing_in, opening, Opened}
+use Rattle.btree_v2_collect.specs.declared.tree.Tree.{Tree}
 use Rattle.btree_v2_find.specs.Find.{last_with, Descent, ended, on_passed, descent, key_test, descended, place_found, find_cells, found_at}
 use Rattle.btree_v2_find.specs.Answers.{found_cells, found_of}
 
@@ -45,43 +48,52 @@ module _ (file : List ℕ) (h : BTreeV2Header) (f : Field) (x : ℕ) where
       by true e = rw (descended_empty e) none
       by false e = some e
 
--- An end with nothing read.
-module _ (file : List ℕ) (f : Field) (x : ℕ) where
-  ends_empty : found_cells (found_of 0 (Ok None)) ≡ find_cells file f x (ended (accepted []))
-  unfolding find_cells place_found last_with
-  ends_empty = refl
+-- With a base: the tests of opening the tree, the key's, and the descent in the part.
+module _ (file : List ℕ) (h : BTreeV2Header) (f : Field) (x : ℕ) where
+  abbrev part : List ℕ
+  part = drop h.base file
 
-  ends_refused : (q : Refusal) → found_cells (found_of 0 (Err q)) ≡ find_cells file f x (ended (refusal_of q))
-  unfolding find_cells place_found
-  ends_refused q = rw (refused_is q).2
+  abbrev by_key : Descent
+  by_key = on_passed (key_test f h.geometry.record_size) (from_root part h f x)
 
--- `seek`, by its ways out.
-module _ (file : List ℕ) (h : BTreeV2Header) (f : Field) (x k : ℕ) (unread : k ≡ 0) where
-  abbrev Answers : Result (Option ℕ) Refusal → Type 0
-  Answers r = found_cells (found_of k r) ≡ found_at file h f x
+  found_opens : found_at file h f x
+      ≡ find_cells part f x (on_passed (opening file h) (or_else (not (nothing_in h)) (ended (accepted [])) by_key))
+  unfolding found_at on_part descended find_cells place_found
+  found_opens = by (leb h.base (length file)) (nothing_in h)
+    where
+      by : (t b : Bool)
+          → or_else t (find_cells file f x (ended (refused 18 [])))
+          (find_cells part f x (or_else (not b) (ended (accepted [])) (on_passed (root_test h.geometry.record_size h.depth) by_key)))
+          ≡ find_cells part f x
+          (on_passed (or_else t (refused 18 []) (or_else (not b) (accepted []) (root_test h.geometry.record_size h.depth)))
+          (or_else (not b) (ended (accepted [])) by_key))
+      by true true = refl
+      by true false = refl
+      by false b = refl
 
-  pub base_refused : (q : Refusal) → length file < h.base → q ≡ BaseBeyondFile → Answers (Err q)
-  unfolding found_at
-  base_refused q beyond is = rw (unread, is, on_part_beyond _ _ file h.base beyond) (ends_refused file f x BaseBeyondFile)
+  -- `seek`, by its ways out.
+  module _ (k : ℕ) (unread : k ≡ 0) where
+    pub refuses : (q : Refusal) → refusal_of q ≡ opening file h → found_cells (found_of k (Err q)) ≡ found_at file h f x
+    unfolding find_cells place_found
+    refuses q e = rw (unread, found_opens, ← e, (refused_is q).2)
 
-  module _ (part : List ℕ) (within : h.base ≤ length file) (is : part ≡ drop h.base file) where
-    ends : (r : Result (Option ℕ) Refusal) (d : Descent) → descended part h f x ≡ d → found_cells (found_of 0 r) ≡ find_cells part f x d → Answers r
-    unfolding found_at
-    ends r d e found = rw (unread, on_part_within _ _ file h.base within, ← is, e) found
+    module _ (passes : accepted [] ≡ opening file h) where
+      pub finds_nothing : true ≡ nothing_in h → found_cells (found_of k (Ok None)) ≡ found_at file h f x
+      unfolding find_cells place_found last_with
+      finds_nothing none = rw (unread, found_opens, ← passes, ← none)
 
-    pub found_nothing : true ≡ nothing part h f x → Answers (Ok None)
-    found_nothing e = ends (Ok None) (ended (accepted [])) (descended_empty part h f x (sym e)) (ends_empty part f x)
+      module _ (t : Tree) (is : Opened file h t) where
+        pub key_refused : false ≡ number_field f t.geometry.record_size → found_cells (found_of k (Err InvalidKeyField)) ≡ found_at file h f x
+        unfolding find_cells place_found key_test
+        key_refused has = let e = rw is.geometry at has in rw (unread, found_opens, ← passes, ← is.some, ← e)
 
-    module _ (some : false ≡ nothing part h f x) where
-      opens : descended part h f x
-          ≡ on_passed (root_test h.geometry.record_size h.depth) (on_passed (key_test f h.geometry.record_size) (from_root part h f x))
-      opens = descended_some part h f x (sym some)
-
-      pub root_refused : (q : Refusal) → refusal_of q ≡ root_test h.geometry.record_size h.depth → Answers (Err q)
-      root_refused q e =
-          ends (Err q) (ended (refusal_of q)) (opens ∙ rw (← e, (refused_is q).2)) (ends_refused part f x q)
-
-      module _ (passes : accepted [] ≡ root_test h.geometry.record_size h.depth) where
-        pub key_refused : false ≡ number_field f h.geometry.record_size → Answers (Err InvalidKeyField)
-        unfolding key_test
-        key_refused has = ends (Err InvalidKeyField) (ended (refusal_of InvalidKeyField)) (opens ∙ rw (← passes, ← has)) (ends_refused part f x InvalidKeyField)
+  pub descends : accepted [] ≡ opening file h → (t : Tree) → Opened file h t → true ≡ number_field f t.geometry.record_size
+      → (k : ℕ) (r : Result (Option ℕ) Refusal)
+      → found_cells (found_of k r)
+      ≡ find_cells t.file.now f x
+      (descent t.file.now t.geometry f x (collect_tests t.file.now t.geometry) t.depth t.root.address t.root.records)
+      → found_cells (found_of k r) ≡ found_at file h f x
+  unfolding key_test
+  descends passes t is has k r found =
+      let e = rw is.geometry at has in
+      rw (found_opens, ← passes, ← is.some, ← e, ← is.part, ← is.address, ← is.records, ← is.geometry, ← is.depth) found

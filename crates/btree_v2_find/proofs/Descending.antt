@@ -1,8 +1,8 @@
 -- The descent: the loop of `descend`, with a law for each way out of it.
 use mathlib.Core.Path.{◌≡◌, refl, sym, ap, ◌∙◌}
 use mathlib.Core.List.{List, []}
-use Prim.Native.Nat.{ℕ, suc, ◌+◌, ◌-◌, ◌≤◌, ◌<◌}
-use native.Mathlib.Nat.{le_refl}
+use Prim.Native.Nat.{ℕ, suc, ◌+◌, ◌-◌, ◌≤◌, ◌<◌, min}
+use native.Mathlib.Nat.{min-eq_left}
 use native.Mathlib.Omega.{arith}
 use lib.ListN.{length}
 use Rattle.std.specs.Prelude.{Option, Some, None, Result, ⊤, Ok, Err}
@@ -17,7 +17,7 @@ use Rattle.node_info.proofs.Columns.{pointer_entry}
 use Rattle.field.specs.declared.Field.{Field}
 use Rattle.field.specs.Field.{number_at}
 use Rattle.btree_v2_leaf.specs.Leaf.{leaf_test}
-use Rattle.btree_v2_internal.specs.declared.Node.{Node}
+use Rattle.read_checks.specs.declared.Node.{Node}
 use Rattle.btree_v2_internal.specs.declared.Internal.{Internal}
 use Rattle.btree_v2_internal.specs.Internal.{internal_test}
 use Rattle.btree_v2_internal.specs.Pointers.{address_at, records_at}
@@ -29,15 +29,12 @@ use Rattle.btree_v2_collect.proofs.Nodes.{tested_by, child_by, leaf_tested, leaf
 use Rattle.btree_v2_find.specs.Find.{one_of, last_with, Descent, ended, on_passed, behind, bound, bounding, descent, place_found, find_cells}
 use Rattle.btree_v2_find.specs.Answers.{place_of, found_cells, found_of}
 use Rattle.btree_v2_find.specs.Descending.{GoesOn}
-use Rattle.btree_v2_find.proofs.Keys.{one_nil, one_assoc, last_append}
+use Rattle.btree_v2_find.proofs.Keys.{one_assoc, last_append}
 
 -- How a descent goes on, and ends.
 module _ (file : List ℕ) (f : Field) (x : ℕ) (whole : Descent) where
   abbrev last : List ℕ → List ℕ
   last = last_with (number_at file f) x
-
-  pub begins : GoesOn file f x whole whole 0 []
-  begins = record { ends = refl; nodes = omega arith; last = one_nil (last whole.bounds) }
 
   past : (k : ℕ) (kept ps : List ℕ) (next : Descent) → GoesOn file f x whole (behind ps next) k kept
       → GoesOn file f x whole next (k + 1) (one_of (last ps) kept)
@@ -76,9 +73,6 @@ module _ (file : List ℕ) (g : Geometry) (f : Field) (x depth : ℕ) (root : No
     pub counts : k + level ≡ depth
     pub on : GoesOn file f x whole (down level node.address node.records) k (place_of kept)
 
-  pub going_start : Going root None depth 0
-  going_start = record { low = le_refl depth; counts = omega arith; on = begins file f x whole }
-
   or_place : (o p : Option ℕ) → place_of (option_or o p) ≡ one_of (place_of o) (place_of p)
   or_place None p = refl
   or_place (Some i) p = refl
@@ -94,10 +88,13 @@ module _ (file : List ℕ) (g : Geometry) (f : Field) (x depth : ℕ) (root : No
     found_here = last_with (number_at file f) x (bounding file g f x a n)
 
     -- An internal node, whose children have level u.
-    module _ (info : NodeInfo) (table : info ≡ info_at g depth) (deep : depth ≤ 32) (some : 0 < level) (internal : Internal)
+    module _ (info : NodeInfo) (filled : info ≡ info_at g (min depth 32)) (deep : depth ≤ 32) (some : 0 < level) (internal : Internal)
         (by_table : internal ≡ record { node = node; record_size = g.record_size; pointer = pointer_in info g.offset_size (level - 1) }) where
       abbrev u : ℕ
       u = level - 1
+
+      table : info ≡ info_at g depth
+      table = rw (min-eq_left deep) at filled
 
       abbrev test : Answer
       test =

@@ -1,13 +1,14 @@
 -- What finding answers in every file, whatever collecting makes of it: document 02, "One".
 use mathlib.Core.Path.{◌≡◌, refl}
-use mathlib.Core.Bool.{Bool, true, false}
+use mathlib.Core.Bool.{true, false}
 use mathlib.Core.List.{List, [], ◌∷◌, ◌++◌}
 use Prim.Native.Nat.{ℕ, zero, suc, ◌+◌, ◌^◌, ◌≤◌, ◌<◌}
 use native.Mathlib.Omega.{arith}
 use lib.Dec.{ltb}
 use lib.ListN.{length, get_or}
 use borrow.Author.Tests.{ltb-true}
-use Rattle.numbers.specs.Numbers.{pick}
+use Rattle.std.specs.List.{All}
+use Rattle.std.proofs.lemmas.List.Elements.{All-nil, All-head, All-append}
 use Rattle.numbers.proofs.Numbers.{num_lt}
 use Rattle.refusal.specs.Answer.{Answer, accepted, refused, if_accepted, cells}
 use Rattle.node_info.specs.declared.Geometry.{Geometry}
@@ -26,7 +27,7 @@ use Rattle.btree_v2_find.specs.Find.{last_with, Descent, ended, on_passed, bound
 use Rattle.btree_v2_find.specs.Sorted.{record_size, answered}
 use Rattle.btree_v2_find.specs.Refusals.{nodes_on, RefusedAfter, here, below, RefusedBy, before_root, at_key, at_node}
 use Rattle.btree_v2_find.proofs.Calls.{descended_empty, descended_some, descended_by}
-use Rattle.btree_v2_find.proofs.Keys.{AllOf, all_none, all_more, all_head, all_append, AtMostOne, no_place, one_place, NoneHas, last_is, last_none, last_only, last_has, last_one}
+use Rattle.btree_v2_find.proofs.Keys.{all_pick, AtMostOne, no_place, one_place, NoneHas, last_is, last_none, last_only, last_has, last_one}
 
 -- The answer of a descent is one place, or none: where it is accepted, that of the last bounding record with the key.
 module _ (file : List ℕ) (f : Field) (x : ℕ) (r : Descent) where
@@ -63,10 +64,14 @@ pub record FoundThere (file : List ℕ) (rs : ℕ) (f : Field) (x p : ℕ) : Typ
   pub key : number_at file f p ≡ x
 
 module _ (file : List ℕ) (g : Geometry) where
+  -- The record at place p is in the file.
+  abbrev RecordIn : ℕ → Type 0
+  RecordIn p = p + g.record_size ≤ length file
+
   -- Of a descent from a node of level d on, refused or not: its bounding records are in the file; it reads a node of each level at most, and
   -- where it is accepted one of each; and it is never refused by 15.
   record Holds (d : ℕ) (r : Descent) : Type 0 where
-    there : AllOf (λ p. p + g.record_size ≤ length file) r.bounds
+    there : All RecordIn r.bounds
     most : r.nodes ≤ d + 1
     all : r.ends ≡ accepted [] → r.nodes ≡ d + 1
     plain : Plain r.ends
@@ -75,17 +80,15 @@ module _ (file : List ℕ) (g : Geometry) where
   holds_passed : (d : ℕ) (a : Answer) (next : Descent) → Plain a → ((figures : List ℕ) → a ≡ accepted figures → Holds d next) → Holds d (on_passed a next)
   holds_passed d (accepted figures) next plain h = h figures refl
   holds_passed d (refused number values) next plain h =
-      record { there = all_none; most = omega arith; all = λ e. let z : ◌≡◌ {A = ℕ} 0 1 = cc in absurd (omega arith); plain = plain }
+      record { there = All-nil RecordIn; most = omega arith; all = λ e. let z : ◌≡◌ {A = ℕ} 0 1 = cc in absurd (omega arith); plain = plain }
 
   module _ (f : Field) (x : ℕ) where
     -- The bounding record is one of the node's records.
-    bounding_there : (a n : ℕ) → record_place g a n ≤ length file → AllOf (λ p. p + g.record_size ≤ length file) (bounding file g f x a n)
+    bounding_there : (a n : ℕ) → record_place g a n ≤ length file → All RecordIn (bounding file g f x a n)
     unfolding bounding
-    bounding_there a n h = by (bound file g f x a n) (ltb (bound file g f x a n) n) (ltb-true _ _)
-      where
-        by : (i : ℕ) (t : Bool) → (t ≡ true → i < n) → AllOf (λ p. p + g.record_size ≤ length file) (pick t (record_place g a i ∷ []) [])
-        by i true l = all_more {p = record_place g a i} (omega (arith, record_there file g a n h i (l refl))) all_none
-        by i false l = all_none
+    bounding_there a n h =
+        all_pick RecordIn (record_place g a (bound file g f x a n)) (ltb (bound file g f x a n) n)
+        (λ e. let there = record_there file g a n h (bound file g f x a n) (ltb-true _ _ e) in omega (arith, there))
 
     descent_holds : (d a n : ℕ) → Holds d (descent file g f x (collect_tests file g) d a n)
     unfolding descent collect_tests
@@ -93,7 +96,7 @@ module _ (file : List ℕ) (g : Geometry) where
         holds_passed 0 _ _ (leaf_plain file _ a n)
         (λ figures e.
         record {
-          there = all_append (bounding_there a n ((collecting_there file g).leaf a n figures e).1) all_none;
+          there = All-append RecordIn _ _ (bounding_there a n ((collecting_there file g).leaf a n figures e).1) (All-nil RecordIn);
           most = omega arith;
           all = λ e. refl;
           plain = accepts;
@@ -103,7 +106,7 @@ module _ (file : List ℕ) (g : Geometry) where
         (λ figures e.
         let next = descent_holds d _ _ in
         record {
-          there = all_append (bounding_there a n ((collecting_there file g).internal d a n figures e).1) next.there;
+          there = All-append RecordIn _ _ (bounding_there a n ((collecting_there file g).internal d a n figures e).1) next.there;
           most = omega (arith, next.most);
           all = λ e. omega (arith, next.all e);
           plain = next.plain;
@@ -193,17 +196,20 @@ module _ (file : List ℕ) (h : BTreeV2Header) (f : Field) (x : ℕ) where
       (λ keyed e. at_node rooted keyed (descent_refused number values file g f x h.depth _ _ e)))))
 
   -- Every bounding record is in the file; the one that is found has the key too.
-  pub bounds_there : AllOf (λ p. p + record_size h ≤ length file) (descended file h f x).bounds
-  bounds_there = by_root (λ r. AllOf (λ p. p + record_size h ≤ length file) r.bounds) all_none (λ r t. t.there)
+  pub bounds_there : All (λ p. p + record_size h ≤ length file) (descended file h f x).bounds
+  bounds_there = by_root (λ r. All (λ p. p + record_size h ≤ length file) r.bounds) (All-nil (RecordIn file g)) (λ r t. t.there)
 
   pub found_there : (p : ℕ) → answered file h f x ≡ p ∷ [] → FoundThere file (record_size h) f x p
   unfolding place_found
   found_there p e =
-      all_head (rw e at (by (descended file h f x).ends (last_has (number_at file f) x (λ p there key. record { there = there; key = key }) bounds_there)))
+      let has =
+      last_has (number_at file f) x (RecordIn file g) (FoundThere file (record_size h) f x) _
+      (λ q there key. record { there = there; key = key }) bounds_there in
+      All-head (FoundThere file (record_size h) f x) p [] (rw e at (by (descended file h f x).ends _ has))
     where
-      by : (a : Answer) {places : List ℕ} → AllOf (FoundThere file (record_size h) f x) places → AllOf (FoundThere file (record_size h) f x) (if_accepted a places [])
-      by (accepted figures) all = all
-      by (refused number values) all = all_none
+      by : (a : Answer) (places : List ℕ) → All (FoundThere file (record_size h) f x) places → All (FoundThere file (record_size h) f x) (if_accepted a places [])
+      by (accepted figures) places all = all
+      by (refused number values) places all = All-nil (FoundThere file (record_size h) f x)
 
   -- A key that no field of its width holds is nowhere in a file of bytes.
   pub key_too_large : 256 ^ f.width ≤ x → ((i : ℕ) → get_or file i 0 < 256) → answered file h f x ≡ []

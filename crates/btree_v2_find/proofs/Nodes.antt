@@ -9,8 +9,8 @@ use native.Mathlib.Nat.{zero-add}
 use native.Mathlib.Omega.{arith}
 use lib.Dec.{ltb}
 use borrow.Author.Tests.{lt-ltb, le-ltb}
+use Rattle.std.proofs.lemmas.Bool.{cases_lt}
 use Rattle.numbers.specs.Numbers.{pick}
-use Rattle.numbers.proofs.Numbers.{lt_or_le}
 use Rattle.refusal.specs.Answer.{accepted}
 use Rattle.node_info.specs.declared.Geometry.{Geometry}
 use Rattle.field.specs.declared.Field.{Field}
@@ -92,7 +92,7 @@ module _ (file : List ℕ) (g : Geometry) (f : Field) (x : ℕ) where
             first = first_up_to key x (places_of_child i) (record_place g a i) rest h l ∙ rw (le-ltb (key_at i) x l, lt-ltb i (i + suc m) (omega arith));
             rising = rw (le-ltb (key_at i) x l) s.left;
           })
-          (lt_or_le (key_at i) x)
+          (cases_lt (key_at i) x)
 
   -- Down from a node whose tree is sound: its test passes, and the tree of the child taken is sound.
   module _ (tests : Tests) where

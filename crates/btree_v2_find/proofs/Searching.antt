@@ -19,9 +19,9 @@ use Rattle.std.proofs.iter.runs.Made.{at-is}
 use lib.Dec.{leb, ltb, eqb}
 use Rattle.std.specs.Bool.{then_some}
 use Rattle.std.specs.Iterator.Runs.{Run, SomeRun, EveryRun, AllItemsGive, IsFirstToGive, CallKeepsClosure, IsChunksExactRun}
+use Rattle.std.proofs.lemmas.Bool.{cases_lt}
 use Rattle.numbers.specs.Numbers.{pick, unle, part, num}
 use Rattle.numbers.proofs.Lists.{length_part, part_part}
-use Rattle.numbers.proofs.Numbers.{lt_or_le}
 use Rattle.node_info.specs.declared.Geometry.{Geometry}
 use Rattle.field.specs.declared.Field.{Field}
 use Rattle.field.specs.Field.{number_field, number_at}
@@ -51,8 +51,8 @@ module _ (key : ℕ → ℕ) (x n : ℕ) where
       ⊎_elim
       (λ (m : c < b). absurd (omega (arith, is.reached (omega arith), below c m)))
       (λ (m : b ≤ c). omega arith)
-      (lt_or_le c b))
-      (lt_or_le b c)
+      (cases_lt c b))
+      (cases_lt b c)
 
   among_none : ((k : ℕ) → k < n → key k < x) → None ≡ among
   among_none below =

@@ -9,7 +9,8 @@ use native.Mathlib.Omega.{arith}
 use lib.Dec.{eqb}
 use lib.ListN.{get_or}
 use borrow.Author.Tests.{eqb-true, eqb-false}
-use Rattle.numbers.proofs.Numbers.{lt_or_le}
+use Rattle.std.proofs.lemmas.Bool.{cases_lt}
+use Rattle.std.proofs.lemmas.List.Elements.{All-from_get_or}
 use Rattle.refusal.specs.Answer.{Answer, accepted, refused}
 use Rattle.node_info.specs.declared.Geometry.{Geometry}
 use Rattle.field.specs.declared.Field.{Field}
@@ -28,7 +29,7 @@ use Rattle.btree_v2_find.specs.Find.{Descent, on_passed, last_with, descent, key
 use Rattle.btree_v2_find.specs.Sorted.{key_of, NeverFall, First, None, places_of, record_size, HasKey, answered, FindsFirst, FindsInOrder}
 use Rattle.btree_v2_find.proofs.Calls.{descended_empty, descended_some, descended_by}
 use Rattle.btree_v2_find.proofs.Everywhere.{accepted_cells}
-use Rattle.btree_v2_find.proofs.Keys.{first_with, all_from, first_is, first_none, rising_from}
+use Rattle.btree_v2_find.proofs.Keys.{first_with, HasNot, first_is, first_none, rising_from}
 use Rattle.btree_v2_find.proofs.Nodes.{descends, last_first}
 
 -- Some record is the first with the key, or none has it.
@@ -45,7 +46,7 @@ module _ (o : List ℕ) (rs : ℕ) (f : Field) (x : ℕ) where
       by none true e = inl (n, record { among = omega arith; has = eqb-true _ _ e; before = none })
       by none false e =
           inr (λ i l is.
-          ⊎_elim (λ (k : i < n). none i k is) (λ (k : n ≤ i). let same : i ≡ n = omega arith in eqb-false _ _ e (rw same at is)) (lt_or_le i n))
+          ⊎_elim (λ (k : i < n). none i k is) (λ (k : n ≤ i). let same : i ≡ n = omega arith in eqb-false _ _ e (rw same at is)) (cases_lt i n))
 
 module _ (file : List ℕ) (h : BTreeV2Header) (f : Field) (x : ℕ) where
   abbrev g : Geometry
@@ -88,7 +89,7 @@ module _ (file : List ℕ) (h : BTreeV2Header) (f : Field) (x : ℕ) where
         each = put_each_lem file g places o n a.put;
         accepts = accepts;
         first = first;
-        none = λ t. a.place ∙ first_none key x places (all_from _ places (λ i l e. t i (omega arith) (a.same i (omega arith) ∙ e)));
+        none = λ t. a.place ∙ first_none key x places (All-from_get_or (HasNot key x) places 0 (λ i l e. t i (omega arith) (a.same i (omega arith) ∙ e)));
         only = λ e. ⊎_elim (λ (t : (i : ℕ) × First o rs f n x i). absurd (cons≢nil (sym (first t.0 t.1) ∙ e))) (λ none. none) either;
         either = either;
       }

@@ -2,18 +2,16 @@
 use mathlib.Core.Path.{◌≡◌, refl, sym, ◌∙◌}
 use mathlib.Core.Bool.{true}
 use mathlib.Core.List.{List, []}
-use Prim.Native.Nat.{ℕ, suc, zero, ◌+◌, ◌*◌, ◌^◌, ◌≤◌, ◌<◌}
-use native.Mathlib.Nat.{add-zero, zero-add}
-use native.Mathlib.Numerals.{add-one}
+use Prim.Native.Nat.{ℕ, ◌+◌, ◌≤◌}
 use native.Mathlib.Omega.{arith}
 use mir.Syntax.{w16, w32, w64}
 use lib.ListN.{length, get_or}
 use borrow.Author.Tests.{le-leb}
 use Rattle.std.specs.Prelude.{Result, Ok, Err, ⊤, MatchResult}
-use Rattle.std.specs.Int.{byte_worth, sum_through, from_le_bytes}
-use Rattle.numbers.specs.Numbers.{part, num, unle, field_size}
-use Rattle.numbers.proofs.Lists.{part_cons, part_part, length_part}
-use Rattle.numbers.proofs.Numbers.{num_add, field_size_8}
+use Rattle.std.specs.Int.{from_le_bytes}
+use Rattle.numbers.specs.Numbers.{part, num, field_size}
+use Rattle.numbers.proofs.Numbers.{field_size_8}
+use Rattle.numbers.proofs.Reading.{num_1, bytes_num}
 use Rattle.refusal.specs.declared.Refusal.{Refusal}
 use Rattle.refusal.specs.Answer.{accepted, refusal_of, verdict_of}
 use Rattle.read_checks.specs.Tests.{checksum_test}
@@ -22,43 +20,13 @@ use Rattle.btree_v2_header.specs.Header.{header_figures, header_at, with_base, p
 use Rattle.btree_v2_header.specs.declared.BTreeV2Header.{BTreeV2Header}
 use Rattle.btree_v2_header.specs.Parsing.{Begun, FieldsThere}
 
--- A number in one byte.
-pub num_1 : (l : List ℕ) (p : ℕ) → p < length l → num l p 1 ≡ get_or l p 0
-unfolding num unle
-num_1 l p h = rw (part_cons l p 0 0 h) (omega arith)
-
--- The library's number in the first bytes of a list is theirs.
-sum_is : (b : List ℕ) (k : ℕ) → k < length b → sum_through (λ i. byte_worth i (get_or b i 0)) k ≡ num b 0 (suc k)
-sum_is b zero h = sym (num_1 b 0 h)
-sum_is b (suc k) h =
-    let more : num b 0 (suc (suc k)) ≡ num b 0 (suc k) + 256 ^ suc k * num b (suc k) 1 = rw (add-one, zero-add) at (num_add b 0 (suc k) 1 (omega arith)) in
-    rw (more, num_1 b (suc k) h, sum_is b k (omega arith)) (omega arith)
-
-module _ (l : List ℕ) (p k : ℕ) (there : p + suc k ≤ length l) where
-  bytes_are : (b : List ℕ) → b ≡ part l p (suc k) → sum_through (λ i. byte_worth i (get_or b i 0)) k ≡ num l p (suc k)
-  unfolding num
-  bytes_are b e =
-      rw e
-      (sum_is (part l p (suc k)) k (omega (arith, length_part l p (suc k) there)) ∙ rw (part_part l p (suc k) 0 (suc k) (omega arith), add-zero))
-
--- In two, four and eight bytes.
-module _ (l b : List ℕ) (p x : ℕ) where
-  pub le_2 : p + 2 ≤ length l → b ≡ part l p 2 → x ≡ from_le_bytes w16 b → x ≡ num l p 2
-  le_2 h e is = is ∙ bytes_are l p 1 h b e
-
-  pub le_4 : p + 4 ≤ length l → b ≡ part l p 4 → x ≡ from_le_bytes w32 b → x ≡ num l p 4
-  le_4 h e is = is ∙ bytes_are l p 3 h b e
-
-  pub le_8 : p + 8 ≤ length l → b ≡ part l p 8 → x ≡ from_le_bytes w64 b → x ≡ num l p 8
-  le_8 h e is = is ∙ bytes_are l p 7 h b e
-
 -- `read_sized`: an offset or a length has two, four or eight bytes.
 module _ (l : List ℕ) (p size : ℕ) (sized : (field_size size ≡ true) × (p + size ≤ length l)) where
   pub sized_2 : (b : List ℕ) (x : ℕ) → size ≡ 2 → b ≡ part l p 2 → x ≡ from_le_bytes w16 b → x ≡ num l p size
-  sized_2 b x e = rw e (le_2 l b p x (omega arith))
+  sized_2 b x e of is = rw e (is ∙ bytes_num l p 1 (omega arith) b of)
 
   pub sized_4 : (b : List ℕ) (x : ℕ) → size ≡ 4 → b ≡ part l p 4 → x ≡ from_le_bytes w32 b → x ≡ num l p size
-  sized_4 b x e = rw e (le_4 l b p x (omega arith))
+  sized_4 b x e of is = rw e (is ∙ bytes_num l p 3 (omega arith) b of)
 
   module _ (not-2 : size ≡ 2 → ⊥) (not-4 : size ≡ 4 → ⊥) where
     is_8 : size ≡ 8
@@ -68,7 +36,7 @@ module _ (l : List ℕ) (p size : ℕ) (sized : (field_size size ≡ true) × (p
     eight_there = omega (arith, is_8)
 
     pub sized_8 : (b : List ℕ) (x : ℕ) → b ≡ part l p 8 → x ≡ from_le_bytes w64 b → x ≡ num l p size
-    sized_8 b x = rw is_8 (le_8 l b p x eight_there)
+    sized_8 b x of is = rw is_8 (is ∙ bytes_num l p 7 eight_there b of)
 
 -- `check_rest`: where only the checksum is left to test.
 module _ (file : List ℕ) (o ow lw : ℕ) (b : Begun file o ow) (there : o + (16 + ow + 2 + lw + 4) ≤ length file) (sized : field_size lw ≡ true) where

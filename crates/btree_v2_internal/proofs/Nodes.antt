@@ -2,23 +2,22 @@
 use mathlib.Core.Path.{◌≡◌, refl, sym, ap, ◌∙◌}
 use mathlib.Core.List.{List, [], ◌∷◌}
 use Prim.Native.Nat.{ℕ, ◌+◌, ◌-◌, ◌*◌, ◌%◌, ◌^◌, ◌≤◌, ◌<◌, zero, suc, min}
-use native.Mathlib.Nat.{min-eq_left, pow-le-pow_right}
+use native.Mathlib.Nat.{min-eq_left}
 use native.Mathlib.Omega.{arith}
 use mathlib.Core.Bool.{true}
-use lib.Dec.{leb, lit<}
+use lib.Dec.{leb}
 use lib.ListN.{length, get_or, take, drop}
 use lib.Seq.{get_or-drop}
-use mir.Syntax.{w16}
-use mir.Val.{Fits}
 use Rattle.numbers.specs.Numbers.{unle, num, saturated, field_size}
 use Rattle.numbers.proofs.Copying.{num_saturated}
-use Rattle.numbers.proofs.Numbers.{saturated_add, num_lt}
+use Rattle.numbers.proofs.Numbers.{saturated_add}
 use Rattle.node_info.specs.Table.{pointer_size}
 use Rattle.refusal.specs.Answer.{accepted}
 use Rattle.format.specs.Bytes.{internal_signature, records_end}
 use Rattle.btree_v2_internal.specs.Internal.{pointer_place, child_address, child_records, internal_body, internal_test}
 use Rattle.read_checks.specs.Tests.{front_test}
-use Rattle.read_checks.proofs.Passing.{passed, passed_both, there, front_there}
+use Rattle.refusal.proofs.Answers.{test_passed, both_accepted}
+use Rattle.read_checks.proofs.Passing.{there, front_there}
 use Rattle.read_checks.proofs.Plain.{Plain, accepts, refuses, plain_or, plain_on, front_plain}
 use Rattle.btree_v2_internal.specs.declared.Internal.{Internal}
 use Rattle.btree_v2_internal.specs.Pointers.{pointer_at, address_at, records_at}
@@ -46,10 +45,10 @@ module _ (file : List ℕ) (rs ow w a n : ℕ) where
       → (a + 6 ≤ length file) × (6 + n * rs ≤ length file - a) × (field_size ow ≡ true)
   unfolding internal_test internal_body
   internal_there passes =
-      let both = passed_both (front_test file internal_signature a) _ [] passes in
+      let both = both_accepted passes in
       let records = there (6 + n * rs) (length file - a) [] _ both.2 in
       let pointers = there (6 + n * rs + (n + 1) * w) (length file - a) [] _ records.1 in
-      (front_there file internal_signature a _ both.1, records.0, (passed (field_size ow) 4 (ow ∷ []) [] _ pointers.1).0)
+      (front_there file internal_signature a _ both.1, records.0, (test_passed 4 _ pointers.1).0)
 
   -- How its tests answer.
   pub internal_plain : Plain (internal_test file rs ow w a n)
@@ -81,13 +80,6 @@ module _ (file : List ℕ) (x : Internal) (i records before at : ℕ) (small : l
     where
       size_is : (s : ℕ) → s ≡ min x.pointer.count_size 2 → min s 8 ≡ min (min x.pointer.count_size 8) 2
       size_is s h = omega (arith, h)
-
--- A number in at most two bytes.
-pub count_fits : (l : List ℕ) (at size width x : ℕ) → x ≡ num l at (min size 8) → size ≡ min width 2 → ((i : ℕ) → get_or l i 0 < 256) → Fits w16 x
-count_fits l at size width x stored few known =
-    let two : min size 8 ≤ 2 = omega (arith, few) in
-    let bound : 256 ^ min size 8 ≤ 256 ^ 2 = pow-le-pow_right (lit< tt) two in
-    omega (arith, num_lt l at (min size 8) known, stored)
 
 -- Where no field of a pointer has more than 8 bytes, `address_at` and `records_at` are the address and the count of a walk.
 module _ (file : List ℕ) (x : Internal) (i : ℕ) where

@@ -6,7 +6,7 @@ use mathlib.Core.List.{List, [], ◌∷◌}
 use Prim.Native.Nat.{ℕ, ◌+◌, ◌-◌, ◌*◌, ◌≤◌, ◌<◌}
 use native.Mathlib.Nat.{add-sub_cancel_left}
 use native.Mathlib.Omega.{arith}
-use lib.Dec.{leb, eqb}
+use lib.Dec.{leb}
 use lib.ListN.{length}
 use borrow.Author.Tests.{leb-true, leb-false, le-leb, lt-leb, eqb-true}
 use Rattle.checksum.specs.Lookup3.{lookup3}
@@ -14,7 +14,8 @@ use Rattle.numbers.specs.Numbers.{saturated, part, num}
 use Rattle.refusal.specs.Answer.{Answer, accepted, refused, or_else, on_accepted}
 use Rattle.format.specs.Bytes.{leaf_signature, records_end}
 use Rattle.read_checks.specs.Tests.{needs, front_test, checksum_test}
-use Rattle.read_checks.proofs.Passing.{passed, there, passed_both}
+use Rattle.refusal.proofs.Answers.{test_passed, both_accepted}
+use Rattle.read_checks.proofs.Passing.{there}
 use Rattle.btree_v2_leaf.specs.Leaf.{leaf_body, leaf_test}
 
 module _ (file : List ℕ) (rs a n : ℕ) where
@@ -29,10 +30,10 @@ module _ (file : List ℕ) (rs a n : ℕ) where
   pub leaf_summed : (figures : List ℕ) → leaf_test file rs a n ≡ accepted figures → Summed
   unfolding leaf_test leaf_body checksum_test
   leaf_summed figures e =
-      let body = (passed_both (front_test file leaf_signature a) (leaf_body file rs a n) figures e).2 in
+      let body = (both_accepted e).2 in
       let sum = there (end + 4) (length file) figures _ (there end (length file) figures _ body).1 in
       let computed = lookup3 (part file a (end - a)) in
-      let right = eqb-true (num file end 4) computed (passed (eqb (num file end 4) computed) 6 _ figures _ sum.1).0 in
+      let right = eqb-true (num file end 4) computed (test_passed 6 _ sum.1).0 in
       record { there = omega (arith, sum.0); right = rw add-sub_cancel_left at right }
 
   -- Document 01's test of a leaf: the checksum only where its 4 bytes are there.
@@ -60,7 +61,7 @@ module _ (file : List ℕ) (rs a n : ℕ) where
   pub ends_early : EndsEarly → leaf_test file rs a n ≡ checksum_missing
   unfolding leaf_test leaf_body test_by01
   ends_early early =
-      let front = passed_both (front_test file leaf_signature a) _ [] early.accepts in
+      let front = both_accepted {first = front_test file leaf_signature a} early.accepts in
       let records = (there end (length file) [] _ front.2).0 in
       let ten : end + 4 ≡ a + 10 + n * rs = omega arith in
       rw (front.1, le-leb end (length file) records, lt-leb (end + 4) (length file) (omega (arith, early.short)), ten)

@@ -10,13 +10,14 @@ use Rattle.format.specs.Bytes.{leaf_signature, records_end}
 use Rattle.read_checks.specs.Tests.{front_test}
 use Rattle.read_checks.proofs.Plain.{Plain, refuses, plain_or, plain_on, front_plain, checksum_plain}
 use Rattle.btree_v2_leaf.specs.Leaf.{leaf_body, leaf_test}
-use Rattle.read_checks.proofs.Passing.{passed_both, there}
+use Rattle.refusal.proofs.Answers.{both_accepted}
+use Rattle.read_checks.proofs.Passing.{there}
 
 module _ (file : List ℕ) (rs a n : ℕ) where
   pub leaf_there : (figures : List ℕ) → leaf_test file rs a n ≡ accepted figures → a + 6 + n * rs ≤ length file
   unfolding leaf_test leaf_body
   leaf_there figures e =
-      let p = passed_both (front_test file leaf_signature a) (leaf_body file rs a n) figures e in
+      let p = both_accepted e in
       omega (arith, (there (a + records_end rs n) (length file) figures _ p.2).0)
 
   pub leaf_plain : Plain (leaf_test file rs a n)

@@ -14,7 +14,7 @@ use Rattle.numbers.proofs.Lists.{length_part, part_part, part_past}
 use Rattle.refusal.specs.Answer.{accepted, refused}
 use Rattle.btree_v2_leaf.specs.Leaf.{leaf_test}
 use Rattle.btree_v2_leaf_view.specs.Look.{look_test, look_bytes, record_seen}
-use Rattle.read_checks.proofs.Passing.{passed}
+use Rattle.refusal.proofs.Answers.{test_passed}
 use Rattle.btree_v2_leaf.proofs.Records.{leaf_there}
 
 -- Record i below the count, and from the count on.
@@ -36,7 +36,7 @@ module _ (file : List ℕ) (rs a n : ℕ) where
   module _ (figures : List ℕ) (e : look_test file rs a n ≡ accepted figures) where
     pub look_passed : (0 < rs) × (leaf_test file rs a n ≡ accepted figures)
     unfolding look_test
-    look_passed = let h = passed (ltb 0 rs) 8 [] figures (leaf_test file rs a n) e in (ltb-true 0 rs h.0, h.1)
+    look_passed = let h = test_passed 8 _ e in (ltb-true 0 rs h.0, h.1)
 
     look_part : look_bytes file rs a n ≡ part file (a + 6) (n * rs)
     unfolding look_bytes

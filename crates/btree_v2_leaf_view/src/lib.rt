@@ -9,7 +9,7 @@ ghost use Rattle.refusal.specs.Answer.{answer_of, put_answer_of};
 use btree_v2_leaf::Leaf;
 use refusal::Refusal;
 
-// The records of a leaf that passed its tests.
+// The records of a leaf that passed its tests. Their count stands beside their bytes: it can't be told from those of records of no bytes.
 #[derive(Clone, Copy)]
 pub struct LeafView<'a> {
     // end to end
@@ -22,10 +22,10 @@ impl<'a> LeafView<'a> {
     // A look at a leaf of the part of the file from `base` on.
     #[tactic(auto, unfolding(crate::specs::Look::look_test, crate::specs::Look::look_test_at, crate::specs::Look::look_bytes, crate::specs::Look::look_bytes_at, read_checks::specs::Base::on_part))]
     pub fn new(file: &'a [u8], base: u64, leaf: Leaf) -> Result<LeafView<'a>, Refusal>
-        ensures tested { answer_of (λ _. []) result ≡ look_test_at file.now base leaf.record_size leaf.address leaf.count }
-        ensures records { IfOk result (λ view. view.records.now ≡ look_bytes_at file.now base leaf.record_size leaf.address leaf.count) }
+        ensures tested { answer_of (λ _. []) result ≡ look_test_at file.now base leaf.record_size leaf.node.address leaf.node.records }
+        ensures records { IfOk result (λ view. view.records.now ≡ look_bytes_at file.now base leaf.record_size leaf.node.address leaf.node.records) }
         ensures record_size { IfOk result (λ view. view.record_size ≡ leaf.record_size) }
-        ensures count { IfOk result (λ view. view.count ≡ leaf.count) }
+        ensures count { IfOk result (λ view. view.count ≡ leaf.node.records) }
     {
         let part = read_checks::part_from(file, base)?;
         if leaf.record_size == 0 {
@@ -35,7 +35,7 @@ impl<'a> LeafView<'a> {
         Ok(LeafView {
             records: leaf.records(part),
             record_size: leaf.record_size,
-            count: leaf.count,
+            count: leaf.node.records,
         })
     }
 
@@ -45,7 +45,8 @@ impl<'a> LeafView<'a> {
         self.count
     }
 
-    // Record i, or an empty part where i is not below the count: it can't fail, and `copy_leaf_record` answers 0 bytes of it.
+    // Record i, or an empty part where i is not below the count: that is promised and can't fail, so no Option. `copy_leaf_record` answers 0
+    // bytes of it.
     #[tactic(auto, unfolding(crate::specs::Look::record_seen))]
     pub fn record(self, i: u64) -> &'a [u8]
         ensures { result.now ≡ record_seen self.entry.records.now self.entry.record_size self.entry.count i }
@@ -68,8 +69,8 @@ pub fn copy_leaf_record(
     index: u64,
     output: &mut [u8],
 ) -> Result<u64, Refusal>
-    ensures answered { put_answer_of result ≡ record_answer_at file.now base leaf.record_size leaf.address leaf.count index output.old }
-    ensures output_left { output.new ≡ record_exit_at file.now base leaf.record_size leaf.address leaf.count index output.old }
+    ensures answered { put_answer_of result ≡ record_answer_at file.now base leaf.record_size leaf.node.address leaf.node.records index output.old }
+    ensures output_left { output.new ≡ record_exit_at file.now base leaf.record_size leaf.node.address leaf.node.records index output.old }
 {
     let record = LeafView::new(file, base, leaf)?.record(index);
     if output.len() < record.len() {

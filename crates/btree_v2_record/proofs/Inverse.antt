@@ -1,6 +1,6 @@
 -- Reading and writing are inverse for every type of the table; what a write leaves; fields that a type lacks; types that are not in the table.
 use mathlib.Core.Path.{◌≡◌, refl, sym, ap, ◌∙◌}
-use mathlib.Core.Bool.{Bool, true, false}
+use mathlib.Core.Bool.{true, false}
 use mathlib.Core.List.{List, [], ◌∷◌, append-nil}
 use Prim.Native.Nat.{ℕ, ◌^◌, ◌≤◌, ◌<◌}
 use native.Mathlib.Omega.{arith}
@@ -8,17 +8,12 @@ use lib.ListN.{length, get_or, take, drop}
 use lib.Seq.{take_at, drop_at}
 use borrow.Author.Tests.{leb-true, le-leb, eqb-true, eq-eqb}
 use Rattle.numbers.specs.Places.{over}
-use Rattle.refusal.specs.Answer.{Answer, accepted, refused, or_else}
+use Rattle.refusal.specs.Answer.{accepted, refused}
+use Rattle.refusal.proofs.Answers.{test_passed}
 use Rattle.btree_v2_record.specs.Records.{RecordField, field_table, is_in, fields_in, record_length, record_bytes, value_in, values_in, values_fit, record_read, record_written, record_output}
 use Rattle.btree_v2_record.specs.Inverse.{Inverse, named, width_in}
 use Rattle.btree_v2_record.proofs.Values.{NamesEach, table_each_once, value_at, read_written, written_read, length_bytes}
 use Rattle.btree_v2_record.proofs.Widths.{lacking_reads_0, named_small, fits_exactly}
-
--- What a test before an accepted answer shows.
-passed : (t : Bool) (n : ℕ) (values : List ℕ) (rest : Answer) (figures : List ℕ) → or_else t (refused n values) rest ≡ accepted figures
-    → (t ≡ true) × (rest ≡ accepted figures)
-passed true n values rest figures e = (refl, e)
-passed false n values rest figures e = (cc, cc)
 
 module _ (t : ℕ) where
   abbrev fields : List RecordField
@@ -33,8 +28,8 @@ module _ (t : ℕ) where
   read_of : (bytes values : List ℕ) → record_read t bytes ≡ accepted values → ReadOf bytes values
   unfolding record_read
   read_of bytes values e =
-      let first = passed _ _ _ _ _ e in
-      let second = passed _ _ _ _ _ first.1 in
+      let first = test_passed 19 _ e in
+      let second = test_passed 20 _ first.1 in
       record { known = first.0; long = eqb-true _ _ second.0; are = cc second.1 }
 
   record WrittenOf (values out : List ℕ) (n : ℕ) : Type 0 where
@@ -46,9 +41,9 @@ module _ (t : ℕ) where
   written_of : (values out : List ℕ) (n : ℕ) → record_written t values out ≡ accepted (n ∷ []) → WrittenOf values out n
   unfolding record_written
   written_of values out n e =
-      let first = passed _ _ _ _ _ e in
-      let second = passed _ _ _ _ _ first.1 in
-      let third = passed _ _ _ _ _ second.1 in
+      let first = test_passed 19 _ e in
+      let second = test_passed 20 _ first.1 in
+      let third = test_passed 15 _ second.1 in
       record { known = first.0; fit = second.0; room = leb-true _ _ third.0; long = cc third.1 }
 
   -- What an accepted write leaves: the record, and behind it what was there.

@@ -12,11 +12,12 @@ use lib.ListN.{length, get_or, set, take, drop, replicate, length-set, length-dr
 use lib.Seq.{get_or-set_same, get_or-set_other, get_or-drop, get_or-take, take_at, drop_at, length-take-le}
 use borrow.Author.Tests.{ltb-true, lt-ltb, eqb-true, eqb-false, eq-eqb, not-true}
 use Rattle.numbers.specs.Numbers.{pick, le, unle}
-use Rattle.numbers.proofs.Numbers.{le_length, le_unle, unle_le, unle_lt, lt_or_le}
+use Rattle.numbers.proofs.Numbers.{le_length, le_unle, unle_le, unle_lt}
 use Rattle.btree_v2_record.specs.Records.{RecordField, field_table, is_in, fields_in, record_length, record_bytes, value_in, values_in, values_fit}
 use Rattle.btree_v2_record.specs.Inverse.{named, once, among_four, each_once}
 use Rattle.btree_v2_record.specs.Steps.{filled}
-use Rattle.btree_v2_record.proofs.Table.{and-true, fields_pass}
+use Rattle.std.proofs.lemmas.Bool.{and_parts, cases_lt}
+use Rattle.btree_v2_record.proofs.Table.{fields_pass}
 
 -- What fields have that name each of the four meanings once.
 pub record NamesEach (fs : List RecordField) : Type 0 where
@@ -27,11 +28,11 @@ pub record NamesEach (fs : List RecordField) : Type 0 where
 pub each_once_lem : (fs : List RecordField) → each_once fs ≡ true → NamesEach fs
 unfolding each_once
 each_once_lem fs e =
-    let halves = and-true (once fs && among_four fs) _ e in
-    let first = and-true (once fs) (among_four fs) halves.0 in
-    let second = and-true (named fs 0 && named fs 1) (named fs 2 && named fs 3) halves.1 in
-    let low = and-true (named fs 0) (named fs 1) second.0 in
-    let high = and-true (named fs 2) (named fs 3) second.1 in
+    let halves = and_parts (once fs && among_four fs) _ e in
+    let first = and_parts (once fs) (among_four fs) halves.0 in
+    let second = and_parts (named fs 0 && named fs 1) (named fs 2 && named fs 3) halves.1 in
+    let low = and_parts (named fs 0) (named fs 1) second.0 in
+    let high = and_parts (named fs 2) (named fs 3) second.1 in
     record { none_twice = first.0; four = first.1; all = by low.0 low.1 high.0 high.1 }
   where
     by : named fs 0 ≡ true → named fs 1 ≡ true → named fs 2 ≡ true → named fs 3 ≡ true → (m : ℕ) → m < 4 → named fs m ≡ true
@@ -68,8 +69,8 @@ pub filled_at : (fs : List RecordField) (b v : List ℕ) (m : ℕ) → once fs �
 unfolding filled once among_four named value_in
 filled_at [] b v m o s l = refl
 filled_at (f ∷ fs) b v m o s l =
-    let twice = and-true (not (named fs f.meaning)) (once fs) o in
-    let small = and-true (ltb f.meaning 4) (among_four fs) s in
+    let twice = and_parts (not (named fs f.meaning)) (once fs) o in
+    let small = and_parts (ltb f.meaning 4) (among_four fs) s in
     let less : f.meaning < 4 = ltb-true _ _ small.0 in
     filled_more f fs b v m (eqb m f.meaning) refl (not-true _ twice.0) (omega arith) _ _
     (filled_at fs (drop f.width b) (next f fs b v m) m twice.1 small.1 (rw length-set l))
@@ -120,7 +121,7 @@ pub read_written : (fs : List RecordField) (v rest : List ℕ) (m : ℕ) → val
 unfolding record_bytes value_in values_fit named
 read_written [] v rest m fit n = absurd (true≢false (sym n))
 read_written (f ∷ fs) v rest m fit n =
-    let g = and-true (ltb (get_or v f.meaning 0) (256 ^ f.width)) (values_fit fs v) fit in
+    let g = and_parts (ltb (get_or v f.meaning 0) (256 ^ f.width)) (values_fit fs v) fit in
     rw append_assoc (read_more f v (record_bytes fs v ++ rest) fs m (eqb m f.meaning) refl (ltb-true _ _ g.0) (read_written fs v rest m g.1) n)
 
 -- What was read is written back: the values of a record of these fields fit, and give its bytes.
@@ -136,7 +137,7 @@ module _ (f : RecordField) (fs : List RecordField) (b v : List ℕ) (bytes : (i 
       ⊎_elim
       (λ (h : i < f.width). rw (get_or-take f.width b i 0 h) (bytes i))
       (λ (h : f.width ≤ i). rw (get_or-eq_default own 0 {n = i} (simp length-take (omega arith))) (lit< tt))
-      (lt_or_le i f.width)
+      (cases_lt i f.width)
 
   later_is : (m : ℕ) (t : Bool) → eqb m f.meaning ≡ t → named fs m ≡ true → named fs f.meaning ≡ false
       → ((eqb m f.meaning || named fs m) ≡ true → get_or v m 0 ≡ pick (eqb m f.meaning) (unle own) (value_in fs others m))
@@ -158,7 +159,7 @@ unfolding record_bytes value_in values_fit record_length once named
 written_read [] [] v o e bytes is = (refl, refl)
 written_read [] (x ∷ b) v o e bytes is = absurd (omega arith)
 written_read (f ∷ fs) b v o e bytes is =
-    let twice = and-true (not (named fs f.meaning)) (once fs) o in
+    let twice = and_parts (not (named fs f.meaning)) (once fs) o in
     let n : length (drop f.width b) ≡ record_length fs = rw length-drop (omega arith) in
     let mine = eq-eqb f.meaning f.meaning refl in
     let x : get_or v f.meaning 0 ≡ unle (take f.width b) = rw mine at (is f.meaning (rw mine)) in

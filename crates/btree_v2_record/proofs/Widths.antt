@@ -11,7 +11,7 @@ use borrow.Author.Tests.{ltb-true, lt-ltb, eqb-true, eq-eqb, not-true}
 use Rattle.numbers.specs.Numbers.{pick, unle}
 use Rattle.btree_v2_record.specs.Records.{RecordField, field_table, is_in, fields_in, value_in, values_fit}
 use Rattle.btree_v2_record.specs.Inverse.{named, once, among_four, width_in}
-use Rattle.btree_v2_record.proofs.Table.{and-true}
+use Rattle.std.proofs.lemmas.Bool.{and_parts}
 use Rattle.btree_v2_record.proofs.Values.{table_each_once}
 
 -- A field that the type lacks reads as 0.
@@ -42,14 +42,14 @@ pub fit_each : (fs : List RecordField) (v : List ℕ) → values_fit fs v ≡ tr
 unfolding values_fit named width_in
 fit_each [] v fit m n = absurd (true≢false (sym n))
 fit_each (f ∷ fs) v fit m n =
-    let both = and-true (ltb (get_or v f.meaning 0) (256 ^ f.width)) (values_fit fs v) fit in
+    let both = and_parts (ltb (get_or v f.meaning 0) (256 ^ f.width)) (values_fit fs v) fit in
     fit_here f fs v m (eqb m f.meaning) refl (ltb-true _ _ both.0) (fit_each fs v both.1 m) n
 
 pub each_fit : (fs : List RecordField) (v : List ℕ) → once fs ≡ true → ((m : ℕ) → named fs m ≡ true → get_or v m 0 < 256 ^ width_in fs m) → values_fit fs v ≡ true
 unfolding values_fit named width_in once
 each_fit [] v o all = refl
 each_fit (f ∷ fs) v o all =
-    let twice = and-true (not (named fs f.meaning)) (once fs) o in
+    let twice = and_parts (not (named fs f.meaning)) (once fs) o in
     let mine = eq-eqb f.meaning f.meaning refl in
     let less : get_or v f.meaning 0 < 256 ^ f.width = rw mine at (all f.meaning (rw mine)) in
     rw (lt-ltb _ _ less) (each_fit fs v twice.1 (λ m n. fit_later f fs v m (eqb m f.meaning) refl (not-true _ twice.0) n (all m)))
@@ -59,7 +59,7 @@ pub named_small : (fs : List RecordField) (m : ℕ) → among_four fs ≡ true �
 unfolding among_four named
 named_small [] m s n = absurd (true≢false (sym n))
 named_small (f ∷ fs) m s n =
-    let both = and-true (ltb f.meaning 4) (among_four fs) s in
+    let both = and_parts (ltb f.meaning 4) (among_four fs) s in
     by (eqb m f.meaning) refl (ltb-true _ _ both.0) (named_small fs m both.1) n
   where
     by : (t : Bool) → eqb m f.meaning ≡ t → f.meaning < 4 → (named fs m ≡ true → m < 4) → (eqb m f.meaning || named fs m) ≡ true → m < 4

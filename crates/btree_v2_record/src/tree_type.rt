@@ -35,7 +35,9 @@ impl TryFrom<u8> for TreeType {
 }
 
 impl TreeType {
-    // The fields of a record in their order, and behind them those that the type lacks, which have no bytes.
+    // The fields of a record in their order, and behind them those that the type lacks. These have no bytes, so that no value but 0 fits them. A
+    // list of as many as the type has would be an array with its length beside it: there is no heap, and a constant can't lend a list of structs that
+    // have an invariant. And over four known fields a loop becomes a load or a store for each.
     #[tactic(auto, unfolding(crate::specs::Records::fields_in))]
     #[inline(always)]
     pub(crate) fn fields(self) -> [Field; 4]

@@ -12,11 +12,12 @@ use Rattle.std.proofs.Common.{zero-le}
 use borrow.Author.Tests.{le-leb, lt-leb}
 use lib.ListN.{length, set, take, drop, replicate, length-append, length-replicate}
 use lib.Seq.{drop-drop, take_all, length-take-le}
+use Rattle.std.proofs.lemmas.Bool.{cases_lt}
 use Rattle.numbers.specs.Numbers.{le, part}
 use Rattle.numbers.specs.Places.{stored, put, joined}
 use Rattle.numbers.proofs.Lists.{stored_is, stored_nil, stored_snoc, stored_append, take_stored_end, length_stored, length_part, put_fits}
 use Rattle.numbers.proofs.Filling.{joined_one, filled_turn, length_filled, filled_stored, filled_none}
-use Rattle.numbers.proofs.Numbers.{le_length, lt_or_le}
+use Rattle.numbers.proofs.Numbers.{le_length}
 use Rattle.checksum.specs.Lookup3.{lookup3}
 use Rattle.format.specs.Bytes.{padded}
 use Rattle.format.specs.Fields.{front_fields, end_fields, with_end}
@@ -103,11 +104,11 @@ module _ (o : List ℕ) (used ns k : ℕ) where
       sum_put : d ≡ stored o used (le 4 sum)
       sum_put = rw (hd, put_fits o used (le 4 sum) four)
 
-      pub stamp_sum : k ≤ 1 → 1 ≤ k → d ≡ stamped o used ns k
+      pub stamp_sum : k < 2 → 1 ≤ k → d ≡ stamped o used ns k
       unfolding end_fields joined
       stamp_sum m n = let e : k ≡ 1 = omega arith in rw (stamped_is, e, ← hs, append-nil) sum_put
 
-      pub stamp_put : (z : List ℕ) → 1 < k → z ≡ replicate (length (part d (used + 4) (ns - (used + 4)))) 0
+      pub stamp_put : (z : List ℕ) → 2 ≤ k → z ≡ replicate (length (part d (used + 4) (ns - (used + 4)))) 0
           → put_mid (used + 4) (ns - (used + 4)) d z ≡ stamped o used ns k
       unfolding end_fields joined
       stamp_put z m hz =
@@ -134,7 +135,7 @@ node_stamped o d z fields k used ns left hd hu hl h l hz =
     (λ (m : length fields ≤ k).
     let all = take_all k fields m in
     let front : take used d ≡ joined fields = rw (hd, all, hu) (rw zero-add at (take_stored_end o 0 (joined fields) zero-le)) in rw front)
-    (lt_or_le k (length fields)) in
+    (cases_lt k (length fields)) in
     rw (hz, stamped_is d used ns left (omega arith) (omega arith) (rw len l), same, hl, hd) (filled_turn o 0 used k fields (end_fields ns (joined fields)) zero-le (rw zero-add hu))
 
 end_few : (ns : ℕ) (b : List ℕ) → length (with_end ns (b ∷ [])) ≤ 3

@@ -1,5 +1,6 @@
 // What stands around the contents of the header and of every node: signature, version and type in front, checksum and zeros behind; and the
 // header itself. A budget says how many of these fields are put: what stands after each of them is part of the promise, for every budget.
+// Where there is no room for the bytes, nothing is changed: that is promised too and can't fail, so no Option.
 
 #![tactic(auto)]
 
@@ -55,7 +56,7 @@ pub fn stamp(node: &mut [u8], used: usize, node_size: usize, budget: usize)
     }
     let sum = checksum::jenkins_lookup3(&node[..used]);
     numbers::write_le(node, used, sum as u64, 4);
-    if budget <= 1 {
+    if budget < 2 {
         return;
     }
     node[used + 4..node_size].fill(0);

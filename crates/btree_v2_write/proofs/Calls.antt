@@ -23,7 +23,7 @@ use Rattle.plan.specs.Tree.{Tree, count, nodes, below, Everywhere}
 use Rattle.plan.specs.Planned.{planned, plan_figures, plan_numbers, plan_answer_of, laid_answer_of}
 use Rattle.plan.proofs.Accepted.{planned_none, planned_size}
 use Rattle.plan.proofs.Checks.{Plannable, accepted_plannable}
-use Rattle.plan.proofs.Depths.{depth_le, depth_small}
+use Rattle.plan.proofs.Depths.{depth_small}
 use Rattle.format.specs.Bytes.{address, header_bytes}
 use Rattle.format.specs.declared.Request.{Request}
 use Rattle.format.specs.Request.{depth_of, nodes_of, image_of, root_of, root_records_of, header_from}
@@ -62,9 +62,6 @@ module _ {q : Request} {laid : PlanAndTable} {recs hdr img : List ℕ} (a : Acce
   unfolding plan_figures
   depth_is = let f = known.1 in cc
 
-  low : depth_of q ≤ 32
-  low = depth_le q.record_count q.geometry
-
   ends : q.start + nodes_of q * q.geometry.node_size < 2 ^ 64
   ends =
       let w : 8 * q.geometry.offset_size ≤ 64 = omega (arith, field_size_le q.geometry.offset_size ok.offset) in
@@ -90,17 +87,17 @@ module _ {q : Request} {laid : PlanAndTable} {recs hdr img : List ℕ} (a : Acce
       (λ (some : 0 < q.record_count). fits q recs ok some)
       (eq-zero-or-pos q.record_count)
 
+  -- Its records have bytes, and so have its nodes.
+  pub sizes : (0 < q.geometry.record_size) × (0 < q.geometry.node_size)
+  sizes = (omega (arith, known.0.pass), omega (arith, known.0.pass))
+
   -- The image can be written.
-  pub image_ready : Ready q laid.info (length recs) (length img) p.depth q.record_count 0 0
+  pub image_ready : Ready q (length recs) (length img) p.depth q.record_count 0 0
   unfolding planned
   image_ready =
       rw depth_is
       (record {
-        top = depth_of q;
-        table = a.table;
-        limit = low;
         low = omega arith;
-        size = omega (arith, known.0.pass);
         few = omega (arith, known.0.pass);
         thick = λ deeper. (known.0.thick (some_records deeper));
         fits = rw tree_is all_fit;

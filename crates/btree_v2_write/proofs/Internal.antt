@@ -15,11 +15,12 @@ use mir.Val.{Fits}
 use mir.Syntax.{w64}
 use lib.Dec.{ltb}
 use lib.ListN.{length, length-append}
+use Rattle.std.proofs.lemmas.Bool.{cases_lt}
 use Rattle.numbers.specs.Numbers.{pick, le}
 use Rattle.numbers.specs.Places.{joined, filled_to}
 use Rattle.numbers.proofs.Lists.{length_part}
 use Rattle.numbers.proofs.Filling.{joined_append, joined_one}
-use Rattle.numbers.proofs.Numbers.{le_length, lt_or_le}
+use Rattle.numbers.proofs.Numbers.{le_length}
 use Rattle.format.specs.declared.Request.{Request}
 use Rattle.node_info.specs.declared.ChildPointer.{ChildPointer}
 use Rattle.node_info.specs.Table.{pointer_size}
@@ -49,7 +50,7 @@ module _ {A : Type 0} (k e : ℕ) (large small : A) where
       ⊎_elim
       (λ (l : i < e). let more : e - i ≡ suc (e - (i + 1)) = omega arith in rw (some, more, lt-ltb i e l))
       (λ (l : e ≤ i). let none : e - i ≡ 0 = omega arith in let none' : e - (i + 1) ≡ 0 = omega arith in rw (some, none, none', le-ltb i e l))
-      (lt_or_le i e)
+      (cases_lt i e)
 
   pub from_end : (i : ℕ) → k ≤ i → from i ≡ []
   unfolding two_sizes
@@ -75,15 +76,6 @@ module _ (rs : ℕ) (recs : List ℕ) (x : InternalNode) (front : Filling) where
     pub rest : (end : Filling) → Filled to (records_after rs recs (shares_from i) next) end
         → Filled front (records_after rs recs (child_shares x) x.first.records) end
 
-  pub records_start : RecordsLeft front x.first.records 0
-  records_start =
-      record {
-        place = rw (zero-mul, add-zero);
-        reached = rw from_0;
-        long = refl;
-        rest = λ end f. rw from_0 at f;
-      }
-
   module _ (node : front.at + kept * rs ≤ length front.node.now) (room : (x.first.records + with_one (child_shares x)) * rs ≤ length recs) where
     module _ {to : Filling} {next i m : ℕ} (inv : RecordsLeft to next i) (h : i < kept) (share : m ≡ pick (ltb i x.distributed.extra) (x.distributed.base + 1) x.distributed.base) where
       record_left : shares_from i ≡ m ∷ shares_from (i + 1)
@@ -105,14 +97,6 @@ module _ (rs : ℕ) (recs : List ℕ) (x : InternalNode) (front : Filling) where
           let s : suc i ≤ kept = h in
           let t = rw suc-mul at (mul-le-mul_right rs s) in
           omega (arith, inv.place, inv.long)
-
-      -- The numbers of a turn fit.
-      module _ (pos : 0 < rs) (short : length recs < 2 ^ 64) where
-        pub record_next_fits : Fits w64 (next + m + 1)
-        record_next_fits = omega (arith, le-mul_of_pos_right (next + m + 1) pos, record_there)
-
-        pub record_fits : Fits w64 (next + m)
-        record_fits = omega (arith, record_next_fits)
 
       pub records_turn : {to' : Filling} → Filled to (record_fields rs recs 1 (next + m)) to' → RecordsLeft to' (next + m + 1) (i + 1)
       unfolding records_after
@@ -139,15 +123,7 @@ module _ (start j n ns : ℕ) (pos : 0 < ns) (short : start + (j + n) * ns < 2 ^
   pub number_fits : Fits w64 x
   number_fits = omega (arith, le-mul_of_pos_right x pos, address_fits)
 
--- `put_pointer`: the number of the child's root, its address, and three fields, one after another.
-module _ (q : Request) (L at j : ℕ) (p : ChildPointer) (x : Child) (fits : PointerFits q L at x p j) where
-  pub pointer_number : Fits w64 (j + (x.nodes - 1))
-  pointer_number = number_fits q.start j x.nodes _ fits.size fits.short _ (omega (arith, fits.some))
-
-  pub pointer_address : q.start + (j + (x.nodes - 1)) * q.geometry.node_size < 2 ^ 64
-  pointer_address = address_fits q.start j x.nodes _ fits.size fits.short _ (omega (arith, fits.some))
-
--- The second and the third field fit too.
+-- `put_pointer`: the address of the child's root and two fields more, one after another.
 module _ {q : Request} {z : ChildPointer} {j : ℕ} (a : ℕ) {x : Child} {p p₁ : Filling} (fits : PointerFits q (length p.node.now) p.at x z j)
     (first : Filled p (le z.offset_size a ∷ []) p₁) where
   first_place : p₁.at ≡ p.at + z.offset_size
@@ -202,15 +178,6 @@ module _ (q : Request) (x₀ : InternalNode) (front : Filling) where
     pub long : length to.node.now ≡ length front.node.now
     pub rest : (end : Filling) → Filled to (pointers (children_from i) next) end → Filled front (pointers (children_of x₀) x₀.first.nodes) end
 
-  pub pointers_start : PointersLeft front x₀.first.nodes 0
-  pointers_start =
-      record {
-        place = rw (zero-mul, add-zero);
-        reached = rw from_0;
-        long = refl;
-        rest = λ end f. rw from_0 at f;
-      }
-
   module _ {to : Filling} {next i : ℕ} {x : Child} (inv : PointersLeft to next i) (h : i < last + 1) (one : x ≡ pick (ltb i x₀.distributed.extra) x₀.large x₀.small) where
     pointer_left : children_from i ≡ x ∷ children_from (i + 1)
     pointer_left = rw one (from_step (last + 1) x₀.distributed.extra x₀.large x₀.small i h)
@@ -232,17 +199,16 @@ module _ (q : Request) (x₀ : InternalNode) (front : Filling) where
           let s : next + x.nodes ≤ x₀.first.nodes + nodes_of_all (children_of x₀) = omega arith in
           omega (arith, mul-le-mul_right q.geometry.node_size s, fits.short)
 
-      pub pointer_fits : PointerFits q (length to.node.now) to.at x x₀.pointer next
-      pointer_fits =
+      pub pointer_fits : (0 < x₀.large.nodes) × (0 < x₀.small.nodes) → PointerFits q (length to.node.now) to.at x x₀.pointer next
+      pointer_fits some =
           record {
             bytes = pointer_room;
-            some = rw one (pick_some (ltb i x₀.distributed.extra) x₀.large x₀.small fits.large fits.small);
-            size = fits.size;
+            some = rw one (pick_some (ltb i x₀.distributed.extra) x₀.large x₀.small some.0 some.1);
             short = pointer_short;
           }
 
-      pub next_fits : Fits w64 (next + x.nodes)
-      next_fits = omega (arith, le-mul_of_pos_right (next + x.nodes) fits.size, pointer_short)
+      pub next_fits : 0 < q.geometry.node_size → Fits w64 (next + x.nodes)
+      next_fits pos = omega (arith, le-mul_of_pos_right (next + x.nodes) pos, pointer_short)
 
       pub pointers_turn : {to' : Filling} → Filled to (pointer_to q x₀.pointer x next) to' → PointersLeft to' (next + x.nodes) (i + 1)
       unfolding pointers_to
@@ -317,9 +283,6 @@ module _ {q : Request} (recs : List ℕ) {x : InternalNode} (fits : InternalNode
       pointers_fit =
           record {
             bytes = rw (filled_long f (omega (arith, f.place, own_long, fits.bytes))) (omega (arith, f.place, own_long, fits.bytes));
-            large = fits.some.0;
-            small = fits.some.1;
-            size = omega (arith, fits.bytes);
             short = fits.short;
           }
 

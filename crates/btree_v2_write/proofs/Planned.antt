@@ -10,14 +10,15 @@ use native.Mathlib.Omega.{arith}
 use lib.Dec.{ltb}
 use lib.ListN.{length, replicate}
 use borrow.Author.Tests.{lt-ltb, le-ltb}
+use Rattle.std.specs.List.{All, sum_by}
+use Rattle.std.proofs.lemmas.Bool.{cases_lt}
+use Rattle.std.proofs.lemmas.List.Sums.{sum_by-cons}
 use Rattle.numbers.specs.Numbers.{pick}
-use Rattle.numbers.proofs.Numbers.{lt_or_le}
 use Rattle.node_info.specs.declared.ChildPointer.{ChildPointer}
 use Rattle.node_info.specs.Capacity.{count_width, total_width}
 use Rattle.plan.specs.Tree.{count, size, below, nodes}
 use Rattle.plan.specs.Planned.{taken, children, kids_of, plan_tree, thin}
 use Rattle.plan.proofs.Distributing.{share, extra, extra_lt, children_is, length_children, children_some, sum_of_children, sum_children, taken_le, all_children_less, all_children_more}
-use Rattle.plan.proofs.Lists.{sum_of, AllOf, all_of_map}
 use Rattle.plan.proofs.Plans.{plan_size, plan_nodes}
 use Rattle.plan.proofs.Thin.{thin_children, thin_pos}
 use Rattle.numbers.specs.Places.{joined}
@@ -52,23 +53,22 @@ module _ (c n : ℕ) where
   two_children = rw (two_runs (taken c n + 1) (extra c n) (share c n + 1) (share c n) (omega (arith, extra_lt c n)), children_is)
 
   -- What holds of every child holds of child i.
-  pub each_child : (P : ℕ → Type 0) → AllOf P (children c n) → (i : ℕ) → P (pick (ltb i (extra c n)) (share c n + 1) (share c n))
+  pub each_child : (P : ℕ → Type 0) → All P (children c n) → (i : ℕ) → P (pick (ltb i (extra c n)) (share c n + 1) (share c n))
   each_child P a i =
       ⊎_elim
       (λ (h : i < extra c n). rw (lt-ltb i (extra c n) h) (all_children_more P c n (omega arith) a))
       (λ (h : extra c n ≤ i). rw (le-ltb i (extra c n) h) (all_children_less P c n a))
-      (lt_or_le i (extra c n))
+      (cases_lt i (extra c n))
 
 -- Sums over the children.
-with_one_lem : (ms : List ℕ) → with_one ms ≡ sum_of (λ m. m + 1) ms
-unfolding with_one sum_of
+with_one_lem : (ms : List ℕ) → with_one ms ≡ sum_by (λ m. m + 1) ms
+unfolding with_one
 with_one_lem [] = refl
-with_one_lem (m ∷ ms) = rw (with_one_lem ms)
+with_one_lem (m ∷ ms) = omega (arith, with_one_lem ms, sum_by-cons (λ m. m + 1) m ms)
 
-sum_one : (ms : List ℕ) → sum_of (λ m. m + 1) ms ≡ sum_of (λ m. m) ms + length ms
-unfolding sum_of
+sum_one : (ms : List ℕ) → sum_by (λ m. m + 1) ms ≡ sum_by (λ m. m) ms + length ms
 sum_one [] = refl
-sum_one (m ∷ ms) = omega (arith, sum_one ms)
+sum_one (m ∷ ms) = omega (arith, sum_one ms, sum_by-cons (λ m. m + 1) m ms, sum_by-cons (λ m. m) m ms)
 
 pub one_each : (c n : ℕ) → 1 ≤ n → with_one (children c n) ≡ n + 1
 one_each c n h =
@@ -114,10 +114,10 @@ module _ (q : Request) (d : ℕ) where
   children_two (suc k) zero x y = ap (λ z. child_at y ∷ z) (children_two k zero x y)
   children_two (suc k) (suc e) x y = ap (λ z. child_at x ∷ z) (children_two k e x y)
 
-  nodes_all : (ms : List ℕ) → nodes_of_all (children_at ms) ≡ sum_of (subtree_nodes q d) ms
-  unfolding nodes_of_all children_at sum_of
+  nodes_all : (ms : List ℕ) → nodes_of_all (children_at ms) ≡ sum_by (subtree_nodes q d) ms
+  unfolding nodes_of_all children_at
   nodes_all [] = refl
-  nodes_all (m ∷ ms) = rw (nodes_all ms)
+  nodes_all (m ∷ ms) = omega (arith, nodes_all ms, sum_by-cons (subtree_nodes q d) m ms)
 
   root_place : (j m : ℕ) → j + (subtree_nodes q d m - 1) ≡ j + below d (subtree q d m)
   unfolding nodes
@@ -131,7 +131,7 @@ module _ (q : Request) (recs : List ℕ) (d : ℕ) where
 
   -- Each has as many records as it says.
   abbrev Sized : List ℕ → Type 0
-  Sized = AllOf (λ m. size d (subtree q d m) ≡ m)
+  Sized = All (λ m. size d (subtree q d m) ≡ m)
 
   pub images_kids : (ms : List ℕ) → 0 < length ms → Sized ms → (j r : ℕ)
       → kids_image q recs d (image q recs d) (kids_of (subtree q d) ms) j r ≡ images ms j r
@@ -139,14 +139,14 @@ module _ (q : Request) (recs : List ℕ) (d : ℕ) where
   images_kids [] h s j r = absurd (not-suc-le-zero h)
   images_kids (m ∷ []) h s j r = sym (append-nil _)
   images_kids (m ∷ k ∷ ms) h s j r =
-      rw (s.0, images_kids (k ∷ ms) (omega arith) s.1 (j + nodes d (subtree q d m)) (r + m + 1))
+      rw (s 0 0 h, images_kids (k ∷ ms) (omega arith) (λ i e b. s (suc i) e (omega arith)) (j + nodes d (subtree q d m)) (r + m + 1))
 
   records_kids : (ms : List ℕ) → 0 < length ms → Sized ms → (r : ℕ)
       → own_fields q recs d (kids_of (subtree q d) ms) r ≡ records_after q.geometry.record_size recs (front ms) r
   unfolding kids_of own_fields records_after front
   records_kids [] h s r = absurd (not-suc-le-zero h)
   records_kids (m ∷ []) h s r = refl
-  records_kids (m ∷ k ∷ ms) h s r = rw (s.0, records_kids (k ∷ ms) (omega arith) s.1 (r + m + 1))
+  records_kids (m ∷ k ∷ ms) h s r = rw (s 0 0 h, records_kids (k ∷ ms) (omega arith) (λ i e b. s (suc i) e (omega arith)) (r + m + 1))
 
   module _ (p : ChildPointer) (e : p ≡ child_pointer q d) where
     pointer_at_lem : (m j : ℕ) → pointer_fields q d (subtree q d m) j ≡ pointer_to q p (child_at q d m) j
@@ -165,10 +165,10 @@ module _ (q : Request) (recs : List ℕ) (d n : ℕ) (thick : thin (capacities q
   abbrev pub cap : ℕ
   cap = capacities q d
 
-  pub sized : AllOf (λ m. size d (subtree q d m) ≡ m) (children cap n)
-  sized = all_of_map _ _ (plan_size (capacities q) d) (children cap n) (thin_children (capacities q) d n thick)
+  pub sized : All (λ m. size d (subtree q d m) ≡ m) (children cap n)
+  sized i e b = plan_size (capacities q) d _ (thin_children (capacities q) d n thick i e b)
 
-  pub nodes_node : subtree_nodes q (suc d) n ≡ sum_of (subtree_nodes q d) (children cap n) + 1
+  pub nodes_node : subtree_nodes q (suc d) n ≡ sum_by (subtree_nodes q d) (children cap n) + 1
   nodes_node = plan_nodes (capacities q) d n ∙ rw (sum_of_children (λ m. nodes d (subtree q d m)) cap n)
 
   -- The numbers of the node as the code has them.
@@ -213,7 +213,7 @@ module _ (q : Request) (recs : List ℕ) (d n : ℕ) (thick : thin (capacities q
     image_is =
         rw (fields_are, internal_joined, images_kids q recs d (children cap n) (children_some cap n) sized x.first.nodes x.first.records)
 
-    pub nodes_are : nodes_of_all (children_of x) ≡ sum_of (subtree_nodes q d) (children cap n)
+    pub nodes_are : nodes_of_all (children_of x) ≡ sum_by (subtree_nodes q d) (children cap n)
     nodes_are = rw (children_are, nodes_all q d (children cap n))
 
     pub records_within : with_one (child_shares x) ≤ n

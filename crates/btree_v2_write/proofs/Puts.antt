@@ -2,11 +2,9 @@
 use mathlib.Core.Path.{◌≡◌, refl, ap, ◌∙◌}
 use Rattle.std.specs.Borrow.{MutBor}
 use mathlib.Core.List.{List, [], ◌∷◌, ◌++◌}
-use Prim.Native.Nat.{ℕ, zero, suc, ◌+◌, ◌-◌, ◌*◌, ◌^◌, ◌≤◌, ◌<◌, min}
+use Prim.Native.Nat.{ℕ, zero, suc, ◌+◌, ◌-◌, ◌*◌, ◌≤◌, ◌<◌, min}
 use native.Mathlib.Nat.{add-sub_cancel_left, add-zero, zero-add, sub-zero, mul-le-mul_right, zero-min, min-zero, suc-min-suc}
 use native.Mathlib.Omega.{arith}
-use mir.Val.{Fits}
-use mir.Syntax.{w64}
 use lib.ListN.{length, take, length-append}
 use borrow.Rule.Slice.PartMut.{put_mid}
 use lib.Seq.{take-nil, take_all}
@@ -89,17 +87,7 @@ module _ (p : Filling) (recs : List ℕ) (size n r m : ℕ) (fewer : m ≡ min n
         let less : r + m ≤ r + n = omega arith in
         omega (arith, mul-le-mul_right size less, room)
 
-    module _ (short : length recs < 2 ^ 64) where
-      pub records_end_fits : Fits w64 (r * size + m * size)
-      records_end_fits = omega (arith, records_some)
-
-      pub records_bytes_fit : Fits w64 (m * size)
-      records_bytes_fit = omega (arith, records_some)
-
     module _ (node : p.at + n * size ≤ length p.node.now) where
-      pub records_here : p.at + m * size ≤ length p.node.now
-      records_here = let less : m ≤ n = omega arith in omega (arith, mul-le-mul_right size less)
-
       pub records_put_lem : {d to : Filling} → Passed d n (n * size) to → d.node.ghost_name ≡ p.node.ghost_name → d.at ≡ p.at → d.left ≡ p.left
           → {c : List ℕ} → c ≡ part recs (r * size) (r * size + m * size - r * size) → d.node.now ≡ put_mid p.at (p.at + m * size - p.at) p.node.now c
           → Filled p (record_fields size recs n r) to

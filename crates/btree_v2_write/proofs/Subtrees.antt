@@ -11,18 +11,22 @@ use borrow.Author.Tests.{le-ltb, lt-ltb}
 use lib.Dec.{ltb}
 use lib.ListN.{length, take, drop, length-append}
 use lib.Seq.{take_all, drop-drop}
+use Rattle.std.specs.List.{All, sum_by}
+use Rattle.std.proofs.lemmas.List.Elements.{All-nil, All-cons}
+use Rattle.std.proofs.lemmas.List.Sums.{sum_by-cons}
 use Rattle.numbers.specs.Numbers.{pick}
 use Rattle.numbers.specs.Places.{stored, joined}
 use Rattle.numbers.proofs.Lists.{stored_nil, stored_append, length_stored, drop_stored_end}
 use Rattle.node_info.specs.declared.NodeInfo.{NodeInfo}
 use Rattle.node_info.specs.declared.ChildPointer.{ChildPointer}
-use Rattle.node_info.specs.Table.{level_in, pointer_in}
+use Rattle.node_info.specs.Table.{info_at, level_in, pointer_in}
 use Rattle.node_info.proofs.Columns.{subtree_entry, pointer_entry}
 use Rattle.plan.specs.Tree.{Tree, sum_kids, between, nodes, below, count, size, AllKids, Everywhere}
 use Rattle.plan.specs.declared.Distribution.{Distribution}
 use Rattle.plan.specs.Planned.{distribution, taken, children, kids_of, plan_tree, thin}
+use Rattle.plan.proofs.Depths.{depth_le}
 use Rattle.plan.proofs.Distributing.{share, extra, taken_le, taken_pos, extra_lt, children_some}
-use Rattle.plan.proofs.Lists.{sum_of, AllOf, sum_kids_of}
+use Rattle.plan.proofs.Lists.{sum_kids_of}
 use Rattle.plan.proofs.Plans.{plan_size, plan_count}
 use Rattle.plan.proofs.Thin.{thin_children, thin_pos}
 use Rattle.format.specs.Bytes.{image}
@@ -31,6 +35,7 @@ use Rattle.format.proofs.Fields.{leaf_joined, records_many}
 use Rattle.format.specs.Fit.{Fit}
 use Rattle.format.proofs.Lengths.{length_image, length_children}
 use Rattle.format.specs.declared.Request.{Request}
+use Rattle.format.specs.Request.{depth_of}
 use Rattle.btree_v2_write.specs.declared.node.Child.{Child}
 use Rattle.btree_v2_write.specs.declared.node.InternalNode.{InternalNode}
 use Rattle.btree_v2_write.specs.Shares.{two_sizes, with_one, nodes_of_all, child_shares, children_of, internal_node_fields, InternalNodeFits}
@@ -52,11 +57,11 @@ drop_further a b m k h e =
     let is : k ≡ m + (k - m) = omega arith in rw (is, ← drop-drop, ← drop-drop) (ap (drop (k - m)) e)
 
 -- What holds of every child of the tree holds of every number that a child is made of.
-all_numbers : {A : Type 0} (f : ℕ → A) (P : A → Type 0) (ms : List ℕ) → 0 < length ms → AllKids P (kids_of f ms) → AllOf (λ m. P (f m)) ms
+all_numbers : {A : Type 0} (f : ℕ → A) (P : A → Type 0) (ms : List ℕ) → 0 < length ms → AllKids P (kids_of f ms) → All (λ m. P (f m)) ms
 unfolding kids_of
 all_numbers f P [] h a = absurd (not-suc-le-zero h)
-all_numbers f P (m ∷ []) h a = (a, tt)
-all_numbers f P (m ∷ k ∷ ms) h a = (a.0, all_numbers f P (k ∷ ms) (omega arith) a.1)
+all_numbers f P (m ∷ []) h a = All-cons (λ m. P (f m)) m [] a (All-nil (λ m. P (f m)))
+all_numbers f P (m ∷ k ∷ ms) h a = All-cons (λ m. P (f m)) m (k ∷ ms) a.0 (all_numbers f P (k ∷ ms) (omega arith) a.1)
 
 -- A subtree that is ready has as many records as it says.
 planned_records : (c : ℕ → ℕ) (d n : ℕ) → (1 ≤ d → thin c d n ≡ false) → size d (plan_tree c d n) ≡ n
@@ -65,7 +70,7 @@ planned_records c zero n h = refl
 planned_records c (suc d) n h = plan_size c (suc d) n (h (omega arith))
 
 -- A subtree's image is as long as its nodes.
-length_subtree : {q : Request} {t : NodeInfo} {I d n j r : ℕ} (recs : List ℕ) → Ready q t (length recs) I d n j r
+length_subtree : {q : Request} {I d n j r : ℕ} (recs : List ℕ) → Ready q (length recs) I d n j r
     → length (subtree_image q recs d n j r) ≡ subtree_nodes q d n * q.geometry.node_size
 unfolding subtree_image
 length_subtree {q} {d = d} {n} {j} {r} recs ready =
@@ -73,7 +78,7 @@ length_subtree {q} {d = d} {n} {j} {r} recs ready =
     length_image q recs d (subtree q d n) j r ready.fits record_range
 
 -- The children of a subtree of level d + 1 that is ready.
-module _ {q : Request} {t : NodeInfo} {R I d n j r : ℕ} (ready : Ready q t R I (suc d) n j r) where
+module _ {q : Request} {R I d n j r : ℕ} (ready : Ready q R I (suc d) n j r) where
   abbrev kids : List ℕ
   kids = children (capacities q d) n
 
@@ -90,7 +95,7 @@ module _ {q : Request} {t : NodeInfo} {R I d n j r : ℕ} (ready : Ready q t R I
   kept_few : taken (capacities q d) n < 2 ^ 24
   kept_few = omega (arith, taken_le (capacities q d) n some, ready.few)
 
-  kids_fit : AllOf (λ m. Everywhere (Fit q.geometry) d (subtree q d m)) kids
+  kids_fit : All (λ m. Everywhere (Fit q.geometry) d (subtree q d m)) kids
   unfolding plan_tree
   kids_fit = all_numbers (subtree q d) (Everywhere (Fit q.geometry) d) kids (children_some (capacities q d) n) ready.fits.1
 
@@ -98,19 +103,15 @@ module _ {q : Request} {t : NodeInfo} {R I d n j r : ℕ} (ready : Ready q t R I
   node_pos = omega (arith, ready.fits.0.node)
 
   -- All nodes but the root.
-  nodes_below : subtree_nodes q (suc d) n ≡ sum_of (subtree_nodes q d) kids + 1
+  nodes_below : subtree_nodes q (suc d) n ≡ sum_by (subtree_nodes q d) kids + 1
   nodes_below = nodes_node q [] d n thick
 
   child_ready : (i m next next_record : ℕ) → m ≡ pick (ltb i (extra (capacities q d) n)) (share (capacities q d) n + 1) (share (capacities q d) n)
-      → next + subtree_nodes q d m ≤ j + sum_of (subtree_nodes q d) kids → next_record + m ≤ r + n → Ready q t R I d m next next_record
+      → next + subtree_nodes q d m ≤ j + sum_by (subtree_nodes q d) kids → next_record + m ≤ r + n → Ready q R I d m next next_record
   child_ready i m next next_record is at rest =
       let bytes = mul-le-mul_right {m = next + subtree_nodes q d m} {n = j + subtree_nodes q (suc d) n} q.geometry.node_size (omega (arith, nodes_below)) in
       record {
-        top = ready.top;
-        table = ready.table;
-        limit = ready.limit;
         low = omega (arith, ready.low);
-        size = ready.size;
         few = omega (arith, ready.few);
         thick = λ _. rw is (each_child (capacities q d) n (λ y. thin (capacities q) d y ≡ false) (thin_children (capacities q) d n thick) i);
         fits = rw is (each_child (capacities q d) n (λ y. Everywhere (Fit q.geometry) d (subtree q d y)) kids_fit i);
@@ -120,7 +121,7 @@ module _ {q : Request} {t : NodeInfo} {R I d n j r : ℕ} (ready : Ready q t R I
       }
 
   -- The children's images are as long as their nodes.
-  length_images : (recs : List ℕ) → R ≡ length recs → length (images q recs d kids j r) ≡ sum_of (subtree_nodes q d) kids * q.geometry.node_size
+  length_images : (recs : List ℕ) → R ≡ length recs → length (images q recs d kids j r) ≡ sum_by (subtree_nodes q d) kids * q.geometry.node_size
   unfolding plan_tree size
   length_images recs same =
       let trees = kids_of (subtree q d) kids in
@@ -131,9 +132,9 @@ module _ {q : Request} {t : NodeInfo} {R I d n j r : ℕ} (ready : Ready q t R I
       rw (← images_kids q recs d kids many (sized q recs d n thick) j r, long, sum_kids_of (subtree q d) (nodes d) kids many)
 
 -- A leaf.
-module _ (q : Request) (t : NodeInfo) (recs o : List ℕ) (depth n j r : ℕ) (ready : Ready q t (length recs) (length o) depth n j r) (none : depth ≡ 0) where
-  leaf : Ready q t (length recs) (length o) 0 n j r
-  leaf = subst (λ z. Ready q t (length recs) (length o) z n j r) none ready
+module _ (q : Request) (recs o : List ℕ) (depth n j r : ℕ) (ready : Ready q (length recs) (length o) depth n j r) (none : depth ≡ 0) where
+  leaf : Ready q (length recs) (length o) 0 n j r
+  leaf = subst (λ z. Ready q (length recs) (length o) z n j r) none ready
 
   pub leaf_room : (j + 1) * q.geometry.node_size ≤ length o
   unfolding nodes below
@@ -152,8 +153,8 @@ leaf_few q recs n r h = simp (length-append, records_many) (omega arith)
 pub whole_node : 2 ^ 32 ≤ 18446744073709551615
 whole_node = omega arith
 
-pub leaf_done : {q : Request} {t : NodeInfo} {recs o o' : List ℕ} {depth n j r whole : ℕ}
-    → Ready q t (length recs) (length o) depth n j r → depth ≡ 0 → 2 ^ 32 ≤ whole
+pub leaf_done : {q : Request} {recs o o' : List ℕ} {depth n j r whole : ℕ}
+    → Ready q (length recs) (length o) depth n j r → depth ≡ 0 → 2 ^ 32 ≤ whole
     → o' ≡ stored o (j * q.geometry.node_size) (joined (take whole (leaf_fields q recs n r)))
     → SubtreeWritten q recs o o' depth n j r (record { records = n; total = n; nodes = 1 })
 unfolding subtree_image nodes below count size image plan_tree
@@ -162,14 +163,14 @@ leaf_done {q} {recs = recs} {o} {o'} {n = n} {j} {r} {whole} ready none many e =
     rw none (record { image = rw (all, leaf_joined) at e; child = record { records = refl; total = refl; nodes = refl } })
 
 -- A node of depth at least 1 that keeps k records; its children have b records, the first x of them one more.
-pub record Split (q : Request) (t : NodeInfo) (R I depth n j r k b x : ℕ) : Type 0 where
-  pub given : Ready q t R I depth n j r
+pub record Split (q : Request) (R I depth n j r k b x : ℕ) : Type 0 where
+  pub given : Ready q R I depth n j r
   pub pos : depth ≡ 0 → ⊥
-  pub kept : k ≡ taken (level_in t (depth - 1)).cum_max_nrec n
-  pub base : b ≡ share (level_in t (depth - 1)).cum_max_nrec n
-  pub extra : x ≡ extra (level_in t (depth - 1)).cum_max_nrec n
+  pub kept : k ≡ taken (capacities q (depth - 1)) n
+  pub base : b ≡ share (capacities q (depth - 1)) n
+  pub extra : x ≡ extra (capacities q (depth - 1)) n
 
-module _ {q : Request} {t : NodeInfo} {R I depth n j r k b x : ℕ} (distributed : Split q t R I depth n j r k b x) where
+module _ {q : Request} {R I depth n j r k b x : ℕ} (distributed : Split q R I depth n j r k b x) where
   abbrev under : ℕ
   under = depth - 1
 
@@ -179,69 +180,61 @@ module _ {q : Request} {t : NodeInfo} {R I depth n j r k b x : ℕ} (distributed
   deeper : depth ≡ suc under
   deeper = omega (arith, distributed.pos)
 
-  ready : Ready q t R I (suc under) n j r
-  ready = subst (λ z. Ready q t R I z n j r) deeper distributed.given
-
-  entry : (level_in t under).cum_max_nrec ≡ capacities q under
-  entry = subtree_entry q.geometry ready.top t ready.table under (omega (arith, ready.low)) ready.limit
-
-  k_is : k ≡ taken (capacities q under) n
-  k_is = rw entry at distributed.kept
-
-  b_is : b ≡ share (capacities q under) n
-  b_is = rw entry at distributed.base
-
-  x_is : x ≡ extra (capacities q under) n
-  x_is = rw entry at distributed.extra
+  ready : Ready q R I (suc under) n j r
+  ready = subst (λ z. Ready q R I z n j r) deeper distributed.given
 
   all_is : all ≡ children (capacities q under) n
-  all_is = rw (k_is, x_is, b_is) (two_children (capacities q under) n)
+  all_is = rw (distributed.kept, distributed.extra, distributed.base) (two_children (capacities q under) n)
 
   range_all : with_one all ≡ n + 1
   range_all = rw all_is (one_each (capacities q under) n (some ready))
 
-  nodes_all : subtree_nodes q (suc under) n ≡ sum_of (subtree_nodes q under) all + 1
+  nodes_all : subtree_nodes q (suc under) n ≡ sum_by (subtree_nodes q under) all + 1
   nodes_all = rw all_is (nodes_below ready)
 
   pub base_few : b < 2 ^ 32
-  base_few = omega (arith, b_is, share_less ready, ready.few)
+  base_few = omega (arith, distributed.base, share_less ready, ready.few)
 
-  pub kept_small : k < 2 ^ 24
-  kept_small = omega (arith, k_is, kept_few ready)
+  kept_small : k < 2 ^ 24
+  kept_small = omega (arith, distributed.kept, kept_few ready)
 
-  pointer_is : ◌≡◌ {A = ChildPointer} (pointer_in t q.geometry.offset_size under) (child_pointer q under)
-  pointer_is = pointer_entry q.geometry ready.top t ready.table under (omega (arith, ready.low)) ready.limit q.geometry.offset_size
+  pub pointer_is : {t : NodeInfo} → t ≡ info_at q.geometry (depth_of q) → {p : ChildPointer} → p ≡ pointer_in t q.geometry.offset_size under → p ≡ child_pointer q under
+  pointer_is {t} table e =
+      e ∙ pointer_entry q.geometry (depth_of q) t table under (omega (arith, ready.low)) (depth_le q.record_count q.geometry) q.geometry.offset_size
 
   extra_few : x ≤ k
-  extra_few = omega (arith, x_is, k_is, extra_lt (capacities q under) n)
+  extra_few = omega (arith, distributed.extra, distributed.kept, extra_lt (capacities q under) n)
 
   some_kept : 1 ≤ k
-  some_kept = omega (arith, k_is, taken_pos (capacities q under) n)
+  some_kept = omega (arith, distributed.kept, taken_pos (capacities q under) n)
 
   -- Child i is ready where this node and this record are reached.
-  kid : {I' : ℕ} (i m next next_record : ℕ) → I' ≡ I → m ≡ pick (ltb i x) (b + 1) b → next + subtree_nodes q under m ≤ j + sum_of (subtree_nodes q under) all
-      → next_record + m ≤ r + n → Ready q t R I' under m next next_record
+  kid : {I' : ℕ} (i m next next_record : ℕ) → I' ≡ I → m ≡ pick (ltb i x) (b + 1) b → next + subtree_nodes q under m ≤ j + sum_by (subtree_nodes q under) all
+      → next_record + m ≤ r + n → Ready q R I' under m next next_record
   kid i m next next_record same is at rest =
-      rw same (child_ready ready i m next next_record (rw (x_is, b_is) at is) (rw all_is at at) rest)
+      rw same (child_ready ready i m next next_record (rw (distributed.extra, distributed.base) at is) (rw all_is at at) rest)
 
   -- The first child.
   module _ {m : ℕ} (e : m ≡ pick (ltb 0 x) (b + 1) b) where
     first_left : all ≡ m ∷ from (k + 1) x (b + 1) b 1
     first_left = rw e (from_first k x (b + 1) b)
 
-    pub first_ready : Ready q t R I under m j r
-    unfolding sum_of with_one
+    first_sum : sum_by (subtree_nodes q under) all ≡ subtree_nodes q under m + sum_by (subtree_nodes q under) (from (k + 1) x (b + 1) b 1)
+    first_sum = rw first_left (sum_by-cons (subtree_nodes q under) m (from (k + 1) x (b + 1) b 1))
+
+    pub first_ready : Ready q R I under m j r
+    unfolding with_one
     first_ready =
-        kid 0 m j r refl e (rw first_left (omega arith)) (let all' = rw first_left at range_all in omega (arith, all'))
+        kid 0 m j r refl e (omega (arith, first_sum)) (let all' = rw first_left at range_all in omega (arith, all'))
 
 -- The loop over the children from child 1 on. It began with the image o₁, when child 0 had returned `large`; before child i the node `next` and
 -- the record `row` are reached, the image from that node on is as it was lent, and the child before it, from child 2 on, has returned `small`.
-pub record KidsLeft (q : Request) (t : NodeInfo) (recs o₁ : List ℕ) (depth n j r k b x : ℕ) (large : Child) (o : List ℕ) (small : Child) (next next_record i : ℕ) : Type 0 where
-  pub distributed : Split q t (length recs) (length o₁) depth n j r k b x
+pub record KidsLeft (q : Request) (recs o₁ : List ℕ) (depth n j r k b x : ℕ) (large : Child) (o : List ℕ) (small : Child) (next next_record i : ℕ) : Type 0 where
+  pub distributed : Split q (length recs) (length o₁) depth n j r k b x
   pub of_first : ChildOf (depth - 1) (subtree q (depth - 1) (pick (ltb 0 x) (b + 1) b)) large
   pub of_last : 1 < i → ChildOf (depth - 1) (subtree q (depth - 1) (pick (ltb (i - 1) x) (b + 1) b)) small
   pub within : (1 ≤ i) × (i ≤ k + 1)
-  pub reached : next + sum_of (subtree_nodes q (depth - 1)) (from (k + 1) x (b + 1) b i) ≡ j + sum_of (subtree_nodes q (depth - 1)) (two_sizes (k + 1) x (b + 1) b)
+  pub reached : next + sum_by (subtree_nodes q (depth - 1)) (from (k + 1) x (b + 1) b i) ≡ j + sum_by (subtree_nodes q (depth - 1)) (two_sizes (k + 1) x (b + 1) b)
   pub in_list : next_record + with_one (from (k + 1) x (b + 1) b i) ≡ r + n + 1
   pub long : length o ≡ length o₁
   pub lent : drop (next * q.geometry.node_size) o ≡ drop (next * q.geometry.node_size) o₁
@@ -256,40 +249,44 @@ some_nodes : {d : ℕ} {t : Tree d} {x : Child} → ChildOf d t x → 0 < x.node
 unfolding nodes
 some_nodes y = omega (arith, y.nodes)
 
-abbrev internal_node_at : ℕ → ℕ → ℕ → Child → Child → ChildPointer → ℕ → ℕ → InternalNode
-internal_node_at k b x large small p j r =
+abbrev internal_node_at : ℕ → (b : ℕ) → ℕ → (large small : Child) → ChildPointer → ℕ → ℕ → b < 2 ^ 32 → (0 < large.nodes) × (0 < small.nodes) → InternalNode
+internal_node_at k b x large small p j r few some =
     record {
       distributed = record { kept = k; base = b; extra = x };
       large = large;
       small = small;
       pointer = p;
       first = record { nodes = j; records = r };
+      few = few;
+      some = some;
     }
 
 -- Before the loop: what is distributed, and the first child.
-module _ {q : Request} {t : NodeInfo} {R I depth n j r : ℕ} {x : Distribution}
-    (given : Ready q t R I depth n j r) (pos : depth ≡ 0 → ⊥) (dealt : x ≡ distribution (level_in t (depth - 1)).cum_max_nrec n) where
-  pub now_distributed : Split q t R I depth n j r x.kept x.base x.extra
+module _ {q : Request} {t : NodeInfo} (table : t ≡ info_at q.geometry (depth_of q)) {R I depth n j r : ℕ} {x : Distribution}
+    (given : Ready q R I depth n j r) (pos : depth ≡ 0 → ⊥) (dealt : x ≡ distribution (level_in t (depth - 1)).cum_max_nrec n) where
+  by_capacity : x ≡ distribution (capacities q (depth - 1)) n
+  by_capacity =
+      let low : depth - 1 ≤ depth_of q = omega (arith, given.low) in
+      dealt ∙ ap (λ c. distribution c n) (subtree_entry q.geometry (depth_of q) t table (depth - 1) low (depth_le q.record_count q.geometry))
+
+  pub now_distributed : Split q R I depth n j r x.kept x.base x.extra
   now_distributed =
       record {
         given = given;
         pos = pos;
-        kept = ap (λ (d : Distribution). d.kept) dealt;
-        base = ap (λ (d : Distribution). d.base) dealt;
-        extra = ap (λ (d : Distribution). d.extra) dealt;
+        kept = ap (λ (d : Distribution). d.kept) by_capacity;
+        base = ap (λ (d : Distribution). d.base) by_capacity;
+        extra = ap (λ (d : Distribution). d.extra) by_capacity;
       }
 
   pub share_few : x.base < 2 ^ 32
   share_few = base_few now_distributed
 
-  pub kept_fits : Fits w64 (x.kept + 1)
-  kept_fits = omega (arith, kept_small now_distributed)
-
-  pub first_asked : (m : ℕ) → m ≡ pick (ltb 0 x.extra) (x.base + 1) x.base → Ready q t R I (depth - 1) m j r
+  pub first_asked : (m : ℕ) → m ≡ pick (ltb 0 x.extra) (x.base + 1) x.base → Ready q R I (depth - 1) m j r
   first_asked m e = first_ready now_distributed e
 
 -- A number among those of the subtree's nodes, or the one after them; a record's place among its records, or the one after them.
-module _ {q : Request} {t : NodeInfo} {R I depth n j r k b x : ℕ} (distributed : Split q t R I depth n j r k b x) where
+module _ {q : Request} {R I depth n j r k b x : ℕ} (distributed : Split q R I depth n j r k b x) where
   pub node_fits : (y : ℕ) → y ≤ j + subtree_nodes q (suc (depth - 1)) n → y < 2 ^ 64
   node_fits y within =
       let node = ready distributed in
@@ -299,8 +296,8 @@ module _ {q : Request} {t : NodeInfo} {R I depth n j r k b x : ℕ} (distributed
   record_fits y within = omega (arith, distributed.given.few)
 
 -- The first child is written, and the loop begins.
-module _ {q : Request} {t : NodeInfo} {recs : List ℕ} {depth n j r k b x m : ℕ} {o o₁ : List ℕ} {large : Child}
-    (distributed : Split q t (length recs) (length o) depth n j r k b x) (e : m ≡ pick (ltb 0 x) (b + 1) b)
+module _ {q : Request} {recs : List ℕ} {depth n j r k b x m : ℕ} {o o₁ : List ℕ} {large : Child}
+    (distributed : Split q (length recs) (length o) depth n j r k b x) (e : m ≡ pick (ltb 0 x) (b + 1) b)
     (wrote : SubtreeWritten q recs o o₁ (depth - 1) m j r large) where
   large_total : large.total ≡ m
   large_total = wrote.child.total ∙ planned_records (capacities q) (depth - 1) m (first_ready distributed e).thick
@@ -311,13 +308,10 @@ module _ {q : Request} {t : NodeInfo} {recs : List ℕ} {depth n j r k b x m : �
 
   -- Neither the first child nor one of the smaller size has more records than there are.
   pub first_within : (large.total ≤ n) × (b ≤ n)
-  first_within = (omega (arith, large_total, records_first), omega (arith, b_is distributed, share_less (ready distributed)))
+  first_within = (omega (arith, large_total, records_first), omega (arith, distributed.base, share_less (ready distributed)))
 
   pub first_next_fits : j + large.nodes < 2 ^ 64
-  unfolding sum_of
-  first_next_fits =
-      let nodes = rw (first_left distributed e) at (nodes_all distributed) in
-      node_fits distributed (j + large.nodes) (omega (arith, wrote.child.nodes, nodes))
+  first_next_fits = node_fits distributed (j + large.nodes) (omega (arith, wrote.child.nodes, nodes_all distributed, first_sum distributed e))
 
   pub first_after_fits : r + large.total + 1 < 2 ^ 64
   first_after_fits = record_fits distributed _ (omega (arith, first_within))
@@ -332,23 +326,22 @@ module _ {q : Request} {t : NodeInfo} {recs : List ℕ} {depth n j r k b x m : �
       rw wrote.child.nodes (drop_after o o₁ (j * q.geometry.node_size) own wrote.image ends (omega (arith, node.room)))
 
   pub loop_start : (small : Child) → length o₁ ≡ length o
-      → KidsLeft q t recs o₁ depth n j r k b x large o₁ small (j + large.nodes) (r + large.total + 1) 1
-  unfolding sum_of
+      → KidsLeft q recs o₁ depth n j r k b x large o₁ small (j + large.nodes) (r + large.total + 1) 1
   loop_start small same =
       record {
         distributed = rw same distributed;
         of_first = subst (λ z. ChildOf (depth - 1) (subtree q (depth - 1) z) large) e wrote.child;
         of_last = λ h. absurd (omega arith);
         within = (omega arith, omega arith);
-        reached = rw (first_left distributed e) (omega (arith, wrote.child.nodes));
+        reached = omega (arith, wrote.child.nodes, first_sum distributed e);
         in_list = omega (arith, records_first, large_total);
         long = refl;
         lent = refl;
         left = refl;
       }
 
-module _ {q : Request} {t : NodeInfo} {recs : List ℕ} {depth n j r k b x : ℕ} {o₁ o : List ℕ} {large small : Child} {next next_record i : ℕ}
-    (inv : KidsLeft q t recs o₁ depth n j r k b x large o small next next_record i) where
+module _ {q : Request} {recs : List ℕ} {depth n j r k b x : ℕ} {o₁ o : List ℕ} {large small : Child} {next next_record i : ℕ}
+    (inv : KidsLeft q recs o₁ depth n j r k b x large o small next next_record i) where
   abbrev d : ℕ
   d = depth - 1
 
@@ -356,19 +349,18 @@ module _ {q : Request} {t : NodeInfo} {recs : List ℕ} {depth n j r k b x : ℕ
   rest = from (k + 1) x (b + 1) b
 
   -- A turn: child i, and the numbers and the image after it.
-  module _ (h : i < k + 1) {m : ℕ} (e : m ≡ pick (ltb i x) (b + 1) b) where
+  module _ (h : i ≤ k) {m : ℕ} (e : m ≡ pick (ltb i x) (b + 1) b) where
     kid_left : rest i ≡ m ∷ rest (i + 1)
     kid_left = rw e (from_step (k + 1) x (b + 1) b i (omega arith))
 
-    kid_nodes : next + subtree_nodes q d m + sum_of (subtree_nodes q d) (rest (i + 1)) ≡ j + sum_of (subtree_nodes q d) (two_sizes (k + 1) x (b + 1) b)
-    unfolding sum_of
-    kid_nodes = let q = rw kid_left at inv.reached in omega (arith, q)
+    kid_nodes : next + subtree_nodes q d m + sum_by (subtree_nodes q d) (rest (i + 1)) ≡ j + sum_by (subtree_nodes q d) (two_sizes (k + 1) x (b + 1) b)
+    kid_nodes = let reached = rw kid_left at inv.reached in omega (arith, reached, sum_by-cons (subtree_nodes q d) m (rest (i + 1)))
 
     kid_records : next_record + m + 1 + with_one (rest (i + 1)) ≡ r + n + 1
     unfolding with_one
     kid_records = let q = rw kid_left at inv.in_list in omega (arith, q)
 
-    pub kid_ready : Ready q t (length recs) (length o) d m next next_record
+    pub kid_ready : Ready q (length recs) (length o) d m next next_record
     kid_ready = kid inv.distributed i m next next_record inv.long e (omega (arith, kid_nodes)) (omega (arith, kid_records))
 
     module _ {o' : List ℕ} {z : Child} (wrote : SubtreeWritten q recs o o' d m next next_record z) where
@@ -387,7 +379,7 @@ module _ {q : Request} {t : NodeInfo} {recs : List ℕ} {depth n j r k b x : ℕ
       pub kid_after_fits : next_record + z.total + 1 < 2 ^ 64
       kid_after_fits = record_fits inv.distributed _ kid_record
 
-      pub loop_turn : KidsLeft q t recs o₁ depth n j r k b x large o' z (next + z.nodes) (next_record + z.total + 1) (i + 1)
+      pub loop_turn : KidsLeft q recs o₁ depth n j r k b x large o' z (next + z.nodes) (next_record + z.total + 1) (i + 1)
       unfolding images
       loop_turn =
           let long = length_subtree recs kid_ready in
@@ -413,23 +405,18 @@ module _ {q : Request} {t : NodeInfo} {recs : List ℕ} {depth n j r k b x : ℕ
           }
 
   -- The root, once the last child is written.
-  module _ (past : k + 1 ≤ i) where
-    last_is : i ≡ k + 1
-    last_is = omega (arith, inv.within)
-
+  module _ (last_is : i ≡ k + 1) where
     last_returned : ChildOf d (subtree q d (pick (ltb (i - 1) x) (b + 1) b)) small
     last_returned = inv.of_last (omega (arith, last_is, some_kept inv.distributed))
+
+    pub root_some : (0 < large.nodes) × (0 < small.nodes)
+    root_some = (some_nodes inv.of_first, some_nodes last_returned)
 
     none_left : rest i ≡ []
     none_left = from_end (k + 1) x (b + 1) b i (omega arith)
 
-    nodes_done : next ≡ j + sum_of (subtree_nodes q d) (two_sizes (k + 1) x (b + 1) b)
-    unfolding sum_of
+    nodes_done : next ≡ j + sum_by (subtree_nodes q d) (two_sizes (k + 1) x (b + 1) b)
     nodes_done = let q = rw none_left at inv.reached in omega (arith, q)
-
-    pub record_is : next_record ≡ r + n + 1
-    unfolding with_one
-    record_is = let q = rw none_left at inv.in_list in omega (arith, q)
 
     pub next_is : next + 1 ≡ j + subtree_nodes q (suc d) n
     next_is = omega (arith, nodes_all inv.distributed, nodes_done)
@@ -474,21 +461,21 @@ module _ {q : Request} {t : NodeInfo} {recs : List ℕ} {depth n j r k b x : ℕ
           drop_after o₀ o (j * q.geometry.node_size) whole children_done place (omega (arith, (ready inv.distributed).room, same))
 
     -- The root, with pointers as the table says.
-    module _ (p : ChildPointer) (by_table : p ≡ pointer_in t q.geometry.offset_size d) where
+    module _ (p : ChildPointer) (is : p ≡ child_pointer q d) (few : b < 2 ^ 32) (some : (0 < large.nodes) × (0 < small.nodes)) where
       abbrev internal : InternalNode
-      internal = internal_node_at k b x large small p j r
+      internal = internal_node_at k b x large small p j r few some
 
       numbers : Numbers q recs d n (thick (ready inv.distributed)) internal
       numbers =
           let before : i - 1 ≡ k = omega (arith, last_is) in
-          let last = rw (before, le-ltb k x (extra_few inv.distributed), b_is inv.distributed) at last_returned in
+          let last = rw (before, le-ltb k x (extra_few inv.distributed), inv.distributed.base) at last_returned in
           record {
-            kept = k_is inv.distributed;
-            base = b_is inv.distributed;
-            extra = x_is inv.distributed;
-            large = λ h. child_is (rw (lt-ltb 0 x h, b_is inv.distributed) at inv.of_first);
+            kept = inv.distributed.kept;
+            base = inv.distributed.base;
+            extra = inv.distributed.extra;
+            large = λ h. child_is (rw (lt-ltb 0 x h, inv.distributed.base) at inv.of_first);
             small = child_is last;
-            pointer = by_table ∙ pointer_is inv.distributed;
+            pointer = is;
           }
 
       pub root_fits : InternalNodeFits q (length recs) internal
@@ -500,11 +487,8 @@ module _ {q : Request} {t : NodeInfo} {recs : List ℕ} {depth n j r k b x : ℕ
           let ends : j + nodes_of_all (children_of internal) ≤ j + subtree_nodes q (suc d) n =
           omega (arith, nodes_are q recs d n (thick node) internal numbers, nodes_below node) in
           record {
-            size = node.size;
-            few = base_few inv.distributed;
-            bytes = let is : p ≡ child_pointer q d = by_table ∙ pointer_is inv.distributed in rw (is, k_is inv.distributed) (omega (arith, bytes));
+            bytes = rw (is, inv.distributed.kept) (omega (arith, bytes));
             in_list = le_trans (mul-le-mul_right q.geometry.record_size within) node.in_list;
-            some = (some_nodes inv.of_first, some_nodes last_returned);
             short = omega (arith, mul-le-mul_right q.geometry.node_size ends, node.short);
           }
 
@@ -525,7 +509,7 @@ module _ {q : Request} {t : NodeInfo} {recs : List ℕ} {depth n j r k b x : ℕ
             image = rw (written, all, children_done e same first, stored_turn o₀ _ _ whole own room (place e same first), image_all);
             child =
                 record {
-                  records = k_is inv.distributed ∙ sym (plan_count (capacities q) d n);
+                  records = inv.distributed.kept ∙ sym (plan_count (capacities q) d n);
                   total = sym (plan_size (capacities q) (suc d) n (thick node));
                   nodes = omega (arith, next_is);
                 };

@@ -1,14 +1,13 @@
 -- The subtrees of a planned tree, as the function that writes one goes by them.
 use Rattle.std.specs.Prelude.{◌≡◌, false, List, ℕ, ◌+◌, ◌*◌, ◌^◌, ◌≤◌, ◌<◌}
 use Rattle.numbers.specs.Places.{stored}
-use Rattle.node_info.specs.declared.NodeInfo.{NodeInfo}
-use Rattle.node_info.specs.Table.{info_at}
 use Rattle.node_info.specs.Capacity.{subtree_capacity}
 use Rattle.plan.specs.Tree.{Tree, count, size, nodes, Everywhere}
 use Rattle.plan.specs.Planned.{plan_tree, thin}
 use Rattle.format.specs.Bytes.{image}
 use Rattle.format.specs.Fit.{Fit}
 use Rattle.format.specs.declared.Request.{Request}
+use Rattle.format.specs.Request.{depth_of}
 use Rattle.btree_v2_write.specs.declared.node.Child.{Child}
 use Rattle.btree_v2_write.specs.declared.node.Place.{Place}
 
@@ -26,14 +25,10 @@ subtree_nodes q d n = nodes d (subtree q d n)
 unfoldable pub subtree_image : Request → List ℕ → ℕ → ℕ → ℕ → ℕ → List ℕ
 subtree_image q recs d n j r = image q recs d (subtree q d n) j r
 
--- A subtree that can be written: the table reaches its depth, its records are among 2^24, it is a leaf or not too thin, its
+-- A subtree that can be written: it is no deeper than the tree, its records are among 2^24, it is a leaf or not too thin, its
 -- nodes fit, its records are in the list, its nodes in the image, and its addresses below 2^64.
-pub record Ready (q : Request) (t : NodeInfo) (records image d n j r : ℕ) : Type 0 where
-  pub top : ℕ
-  pub table : t ≡ info_at q.geometry top
-  pub limit : top ≤ 32
-  pub low : d ≤ top
-  pub size : 0 < q.geometry.record_size
+pub record Ready (q : Request) (records image d n j r : ℕ) : Type 0 where
+  pub low : d ≤ depth_of q
   pub few : r + n < 2 ^ 24
   pub thick : 1 ≤ d → thin (capacities q) d n ≡ false
   pub fits : Everywhere (Fit q.geometry) d (subtree q d n)

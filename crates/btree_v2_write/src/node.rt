@@ -4,9 +4,10 @@
 ghost use Rattle.std.specs.Prelude.{◌≡◌, ◌+◌, ◌*◌, ◌^◌, ◌≤◌, ◌<◌, length, take, ltb};
 ghost use Rattle.numbers.specs.Numbers.{pick};
 ghost use Rattle.numbers.specs.Places.{stored, joined, filled_to};
+ghost use Rattle.node_info.specs.Table.{info_at};
 ghost use Rattle.format.specs.Fields.{leaf_fields};
+ghost use Rattle.format.specs.Request.{depth_of};
 ghost use Rattle.btree_v2_write.specs.Filled.{Filled};
-ghost use Rattle.btree_v2_write.specs.Shares.{child_shares, with_one, records_after, pointer_to, pointers_to, children_of, PointerFits, PointersFit, InternalNodeFits, internal_node_fields};
 
 use crate::filling::Filling;
 use format::Request;
@@ -19,6 +20,8 @@ pub(crate) struct Writing<'a> {
     pub(crate) request: Request,
     pub(crate) records: &'a [u8],
     pub(crate) info: &'a NodeInfo,
+    ghost sized: { (0 < request.geometry.record_size) × (0 < request.geometry.node_size) },
+    ghost table: { info.now ≡ info_at request.geometry (depth_of request) },
 }
 
 // A place in a writing: the nodes and the records before it, which are the numbers of the next node and record.
@@ -45,28 +48,22 @@ pub(crate) struct InternalNode {
     pub(crate) small: Child,
     pub(crate) pointer: ChildPointer,
     pub(crate) first: Place,
+    ghost few: { distributed.base < 2 ^ 32 },
+    ghost some: { (0 < large.nodes) × (0 < small.nodes) },
 }
 
-// Of child i: `larger` of the first `extra` children, `smaller` of the others. Not a method, since `Distribution` is a type of plan.
-pub(crate) fn of_child<T: Copy>(distributed: &Distribution, i: u64, larger: T, smaller: T) -> T
-    ensures { result ≡ pick (ltb i distributed.now.extra) larger smaller }
-{
-    if i < distributed.extra {
-        larger
-    } else {
-        smaller
-    }
-}
-
-// The records of child i.
+// The records of child i. Not a method of plan's `Distribution`, which would be public: it asks for a `base` that one can be added to, and a public
+// function asks nothing.
 pub(crate) fn share(distributed: &Distribution, i: u64) -> u64
     requires { distributed.now.base < 2 ^ 32 }
     ensures { result ≡ pick (ltb i distributed.now.extra) (distributed.now.base + 1) distributed.now.base }
 {
-    of_child(distributed, i, distributed.base + 1, distributed.base)
+    distributed.of_child(i, distributed.base + 1, distributed.base)
 }
 
 impl Writing<'_> {
+    ghost use Rattle.btree_v2_write.specs.Shares.{child_shares, with_one, records_after, pointer_to, pointers_to, children_of, PointerFits, PointersFit, InternalNodeFits, internal_node_fields};
+
     // Fills a leaf of n records, the first of them record r: its first `budget` fields.
     fn fill_leaf(&self, node: &mut [u8], n: usize, r: usize, budget: usize)
         requires { (self.now.request.geometry.node_size ≤ length node.old) × (10 + n * self.now.request.geometry.record_size ≤ self.now.request.geometry.node_size)
@@ -91,9 +88,9 @@ impl Writing<'_> {
     }
 
     // Puts the node's own records as the next fields, those that may still be put.
+    #[tactic(auto, using(crate::proofs::Internal::record_place_lem, crate::proofs::Internal::record_there))]
     fn put_own_records(&self, filling: &mut Filling<'_>, internal: &InternalNode)
-        requires { (internal.now.distributed.base < 2 ^ 32) × (0 < self.now.request.geometry.record_size)
-            × (filling.old.at + internal.now.distributed.kept * self.now.request.geometry.record_size ≤ length filling.old.node.now)
+        requires { (filling.old.at + internal.now.distributed.kept * self.now.request.geometry.record_size ≤ length filling.old.node.now)
             × ((internal.now.first.records + with_one (child_shares internal.now)) * self.now.request.geometry.record_size ≤ length self.now.records.now) }
         ensures { Filled filling.old (records_after self.now.request.geometry.record_size self.now.records.now (child_shares internal.now) internal.now.first.records) filling.new }
     {
@@ -133,7 +130,9 @@ impl Writing<'_> {
     {
         let mut next = internal.first.nodes;
         for i in 0..=internal.distributed.kept {
-            let child = of_child(&internal.distributed, i, internal.large, internal.small);
+            let child = internal
+                .distributed
+                .of_child(i, internal.large, internal.small);
             self.put_pointer(filling, child, internal.pointer, next);
             next += child.nodes;
         }

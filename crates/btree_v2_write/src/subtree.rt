@@ -24,8 +24,9 @@ impl Writing<'_> {
     // Writes the nodes of a subtree of n records from this place on, and gives the subtree in numbers. The children go first, one after another,
     // and then the root, whose pointers are made of what the children's calls returned: the first child is one of the larger size, where there
     // is one, and the last one of the smaller. The place reached goes on by what each returned.
+    #[tactic(auto, using(plan::proofs::Depths::depth_le))]
     pub(crate) fn write_subtree(&self, image: &mut [u8], depth: usize, n: u64, at: Place) -> Child
-        requires { Ready self.now.request self.now.info.now (length self.now.records.now) (length image.old) depth n at.nodes at.records }
+        requires { Ready self.now.request (length self.now.records.now) (length image.old) depth n at.nodes at.records }
         ensures { SubtreeWritten self.now.request self.now.records.now image.old image.new depth n at.nodes at.records result }
     {
         if depth == 0 {
@@ -41,8 +42,7 @@ impl Writing<'_> {
         let large = self.write_subtree(image, under, node::share(&distributed, 0), at);
         let mut small = large;
         let mut next = at.after(&large);
-        // Half open: a loop that ends at `..=` is left in two ways, each with its proof of what follows.
-        for i in 1..distributed.kept + 1 {
+        for i in 1..=distributed.kept {
             small = self.write_subtree(image, under, node::share(&distributed, i), next);
             next = next.after(&small);
         }

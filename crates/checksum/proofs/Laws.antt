@@ -1,5 +1,6 @@
 -- Laws of lookup3's definitions, in the forms in which the functions' proofs have them.
-use Rattle.std.proofs.Common.{◌≡◌, ℕ, zero, suc, ◌+◌, ◌-◌, ◌*◌, ◌/◌, ◌%◌, ◌^◌, ◌<◌, ◌≤◌, ◌∙◌, inl, inr, List, [], ◌∷◌, length, get_or, drop, take, refl, not-suc-le-zero, add-zero, add_comm, arith, lit<, length-drop, get_or-drop, get_or-take, shr_lt, le-ltb, lt-ltb, w32}
+use Rattle.std.proofs.Common.{◌≡◌, ℕ, zero, suc, ◌+◌, ◌-◌, ◌*◌, ◌/◌, ◌%◌, ◌^◌, ◌<◌, ◌≤◌, ◌∙◌, inl, inr, List, [], ◌∷◌, length}
+use Rattle.std.proofs.Common.{get_or, drop, take, refl, not-suc-le-zero, add-zero, add_comm, arith, lit<, length-drop, get_or-drop, get_or-take, shr_lt, le-ltb, lt-ltb, w32}
 use Rattle.std.specs.Int.{rotate_left}
 use Rattle.std.specs.List.{slice_range}
 use native.Mathlib.Nat.{mul-mod_left}

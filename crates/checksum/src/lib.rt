@@ -2,7 +2,7 @@
 
 #![tactic(auto)]
 
-ghost use Rattle.std.specs.Prelude.{◌≡◌, ◌<◌, ◌≤◌};
+ghost use Rattle.std.specs.Prelude.{◌≡◌, ◌<◌};
 ghost use Rattle.checksum.specs.Lookup3.{mix_line_of, mixed, final_line_of, final_mixed, started, word, block_added, ended, lookup3};
 
 // The three words of lookup3's state.
@@ -19,6 +19,7 @@ impl Words {
     fn start(length: usize) -> Words
         ensures { result ≡ started length }
     {
+        // by a remainder: `as` alone does not cut, and by the first four bytes of `to_le_bytes` it is no plainer
         let s = 0xdeadbeef_u32.wrapping_add((length % 0x1_0000_0000) as u32);
         Words { a: s, b: s, c: s }
     }

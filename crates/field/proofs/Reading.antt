@@ -13,33 +13,16 @@ use Rattle.std.specs.Array.{IsFirstChunk}
 use Rattle.std.specs.Int.{from_le_bytes}
 use mir.Syntax.{w64}
 use Rattle.std.proofs.lemmas.Nat.{div-mul-add}
-use Rattle.numbers.specs.Numbers.{pick, unle, part, num, saturated}
-use Rattle.numbers.proofs.Lists.{length_part, part_cons, part_part, part_rest}
-use Rattle.numbers.proofs.Numbers.{lt_or_le, num_add, num_lt, pow_256}
+use Rattle.std.proofs.lemmas.Bool.{cases_lt}
+use Rattle.numbers.specs.Numbers.{pick, part, num, saturated}
+use Rattle.numbers.proofs.Lists.{length_part, part_part, part_rest}
+use Rattle.numbers.proofs.Numbers.{num_add, num_lt, pow_256}
 use Rattle.numbers.proofs.Copying.{num_saturated}
+use Rattle.numbers.proofs.Reading.{bytes_num}
 
--- `read_eight`: the number in 8 bytes is their sum, each times its worth.
-sum_8 : (l : List ℕ) → 8 ≤ length l → from_le_bytes w64 l ≡ num l 0 8
-unfolding num unle
-sum_8 l there =
-    rw (
-      part_cons l 0 7 0 (omega arith),
-      part_cons l 1 6 0 (omega arith),
-      part_cons l 2 5 0 (omega arith),
-      part_cons l 3 4 0 (omega arith),
-      part_cons l 4 3 0 (omega arith),
-      part_cons l 5 2 0 (omega arith),
-      part_cons l 6 1 0 (omega arith),
-      part_cons l 7 0 0 (omega arith),
-    )
-    (omega arith)
-
+-- `read_eight`: the number in the first 8 bytes, where there are so many.
 pub eight_there : (l y : List ℕ) → IsFirstChunk l y 8 → from_le_bytes w64 y ≡ pick (leb 8 (length l)) (num l 0 8) 0
-unfolding num
-eight_there l y first =
-    let long : 8 ≤ length y = rw first.same (omega (arith, length_part l 0 8 first.enough)) in
-    let whole : part y 0 8 ≡ part l 0 8 = rw first.same (part_part l 0 8 0 8 (omega arith)) in
-    rw (le-leb 8 (length l) first.enough, sum_8 y long, whole)
+eight_there l y first = rw (le-leb 8 (length l) first.enough, bytes_num l 0 7 first.enough y first.same)
 
 -- `low_bytes`: x without the bits above.
 pub low_some : (x w m : ℕ) → m ≡ min w 8 → x * 2 ^ (8 * (8 - m)) % 2 ^ 64 / 2 ^ (8 * (8 - m)) ≡ x % 256 ^ min w 8
@@ -57,7 +40,7 @@ num_low l p m v bytes =
     let past : length l ≤ p + (m + v) = omega arith in
     let same : num l p (m + v) ≡ num l p m = rw (part_rest l p (m + v) past, part_rest l p m h) in
     rw same below)
-    (lt_or_le (p + m) (length l))
+    (cases_lt (p + m) (length l))
   where
     below : num l p m % 256 ^ m ≡ num l p m
     below = mod-eq_of_lt (num_lt l p m bytes)
@@ -94,7 +77,7 @@ module _ (d : List ℕ) (p at w : ℕ) (place : at ≡ saturated p) (small : len
       ⊎_elim
       (λ (h : length d - 8 < at). rw (part_rest d at left (omega arith), part_rest d at 8 (omega arith)) refl)
       (λ (h : at ≤ length d - 8). let e : left ≡ 8 = omega arith in rw e refl)
-      (lt_or_le (length d - 8) at)
+      (cases_lt (length d - 8) at)
       in
       let some : m + (8 - m) ≡ 8 = omega arith in
       rw (low, shifted, rest_is) (rw some at (num_low d at m (8 - m) bytes) ∙ number_short (num d at m) refl)

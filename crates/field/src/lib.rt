@@ -2,7 +2,7 @@
 
 #![tactic(auto)]
 
-ghost use Rattle.std.specs.Prelude.{◌≡◌, ◌+◌, ◌%◌, ◌^◌, ◌≤◌, ◌<◌, min, leb, length, get_or};
+ghost use Rattle.std.specs.Prelude.{◌≡◌, ◌+◌, ◌%◌, ◌^◌, min, leb, length};
 ghost use Rattle.numbers.specs.Numbers.{pick, num};
 ghost use Rattle.field.specs.Field.{number_field};
 
@@ -24,6 +24,8 @@ impl Field {
 
     // The field's number in the record at `place`; of a field that runs past the end of the data, its bytes before the end. A width above 8
     // counts as 8. It is kept of eight bytes by two shifts, where there are eight: of those from the field's start on, or of the data's last.
+    // The contract is that of `numbers::read_le` at `place + start`. By that, byte by byte, a find took 1.45 to 1.71 times the plain find's time in
+    // nodes of 64 and 512 bytes, and 1.3 is the aim; so a key is read by one load of eight bytes.
     #[tactic(auto, using(crate::proofs::Reading::number_short, crate::proofs::Reading::number_of_eight))]
     pub fn read(self, data: &[u8], place: u64) -> u64
         ensures { result ≡ num «data».now (place + self.start) (min self.width 8) }
@@ -39,7 +41,7 @@ impl Field {
     }
 }
 
-// The number in the first 8 bytes; 0 where there are fewer.
+// The number in the first 8 bytes; 0 where there are fewer, which is promised and can't fail, so no Option.
 #[tactic(auto, using(crate::proofs::Reading::eight_there))]
 pub fn read_eight(data: &[u8]) -> u64
     ensures { result ≡ pick (leb 8 (length «data».now)) (num «data».now 0 8) 0 }

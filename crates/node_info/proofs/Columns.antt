@@ -12,8 +12,8 @@ use lib.ListN.{length, get_or, set, length-set, get_or-eq_default}
 use lib.Seq.{ext_get_or, get_or-set_same, get_or-set_other}
 use borrow.Author.Tests.{le-leb, lt-leb}
 use Rattle.std.specs.Prelude.{map}
+use Rattle.std.proofs.lemmas.Bool.{cases_lt}
 use Rattle.numbers.specs.Numbers.{pick}
-use Rattle.numbers.proofs.Numbers.{lt_or_le}
 use Rattle.node_info.specs.Capacity.{count_width, total_width, node_capacity, subtree_capacity}
 use Rattle.node_info.specs.Table.{column_from, entries, column, level_at, no_level, level_in, pointer_in, info_at, table_figures}
 use Rattle.node_info.specs.declared.NodeInfo.{NodeInfo}
@@ -50,7 +50,7 @@ module _ {A : Type 0} (none : A) (f : ℕ → A) (d : ℕ) where
       ⊎_elim
       (λ (l : i < 33). rw (get_or_column i l, lt-leb i d h))
       (λ (l : 33 ≤ i). get_or-eq_default (entries none f d) none (rw entries_length l))
-      (lt_or_le i 33)
+      (cases_lt i 33)
 
 -- One level more.
 pub entries_more : {A : Type 0} (none : A) (f : ℕ → A) (d : ℕ)
@@ -75,7 +75,7 @@ entries_more {A} none f d =
         rw (← e, get_or-set_same (entries none f d) (d + 1) (f (d + 1)) none (rw entries_length (omega arith)), entries_at none f (d + 1) (d + 1) (le_refl (d + 1)) (omega arith)))
         (λ (b : d + 1 < i). rw (other i (omega arith), entries_above none f d i (omega arith), entries_above none f (d + 1) i b))
         (eq-or-lt_of_le a))
-        (lt_or_le i (d + 1))
+        (cases_lt i (d + 1))
 
 -- A field of each level makes a column.
 map_pick : {A B : Type 0} (p : A → B) (b : Bool) (x y : A) → p (pick b x y) ≡ pick b (p x) (p y)

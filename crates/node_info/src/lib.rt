@@ -2,13 +2,37 @@
 
 #![tactic(auto)]
 
-ghost use Rattle.std.specs.Prelude.{◌≡◌, min, IfOk};
+ghost use Rattle.std.specs.Prelude.{◌≡◌, [], ◌∷◌, min, IfOk};
+ghost use Rattle.numbers.specs.Numbers.{field_size};
+ghost use Rattle.refusal.specs.Answer.{accepted, refused, or_else, verdict_of};
 ghost use Rattle.node_info.specs.Capacity.{leaf_capacity, internal_capacity};
 ghost use Rattle.node_info.specs.Table.{pointer_size, pointer_in, info_at, next_level, with_level_above, tabled, table_answer};
 
 use refusal::Refusal;
 
-// A tree's sizes in bytes: of a node, of a record, and of an address.
+// Refusal 4 where offsets have none of the sizes that they may have. This and the next are two functions and not one that takes the refusal, since
+// each caller would then name its size twice.
+pub fn check_offset_size(size: u8) -> Result<(), Refusal>
+    ensures { verdict_of result ≡ or_else (field_size size) (refused 4 (size ∷ [])) (accepted []) }
+{
+    if numbers::is_field_size(size) {
+        return Ok(());
+    }
+    Err(Refusal::InvalidOffsetSize(size))
+}
+
+// Refusal 5 where lengths have none of the sizes that they may have.
+pub fn check_length_size(size: u8) -> Result<(), Refusal>
+    ensures { verdict_of result ≡ or_else (field_size size) (refused 5 (size ∷ [])) (accepted []) }
+{
+    if numbers::is_field_size(size) {
+        return Ok(());
+    }
+    Err(Refusal::InvalidLengthSize(size))
+}
+
+// A tree's sizes in bytes: of a node, of a record, and of an address. Each may be any number, and each number has an answer, so the size of an
+// address is not an enum of the three.
 #[derive(Clone, Copy)]
 pub struct Geometry {
     pub node_size: u32,
@@ -150,7 +174,7 @@ impl NodeInfo {
         }
     }
 
-    // Adds the level above this one, where the table has room for it.
+    // Adds the level above this one, where the table has room for it; else changes nothing, which is promised and can't fail.
     #[tactic(auto, unfolding(crate::specs::Table::with_level_above))]
     pub fn add_level_above(&mut self, geometry: Geometry, level: u16)
         ensures { self.new ≡ with_level_above geometry level self.old }
@@ -166,7 +190,7 @@ impl NodeInfo {
         }
     }
 
-    // Makes this the table of a tree of this depth, of the highest level's where it is deeper. In place, since a table that is returned stands
+    // Makes this the table of a tree of this depth, of the highest level's where it is deeper. In place, since a table that is returned may stand
     // on the caller's stack twice.
     #[tactic(auto, using(crate::proofs::Growing::info_more))]
     pub fn fill(&mut self, geometry: Geometry, depth: u16)

@@ -8,10 +8,10 @@ use native.Mathlib.Omega.{arith}
 use Rattle.std.proofs.Common.{zero-le}
 use lib.ListN.{length, take, drop, length-append, take-append-drop}
 use lib.Seq.{take_all, take-append-le, take-append-add, take-append_seam, drop-append_seam, take-add}
+use Rattle.std.proofs.lemmas.Bool.{cases_lt}
 use Rattle.numbers.specs.Places.{stored, over, joined, filled_to}
 use Rattle.numbers.proofs.Lists.{stored_nil, stored_append, length_stored}
 use Rattle.numbers.proofs.Copying.{over_stored}
-use Rattle.numbers.proofs.Numbers.{lt_or_le}
 
 pub joined_append : (a b : List (List ℕ)) → joined (a ++ b) ≡ joined a ++ joined b
 unfolding joined
@@ -43,13 +43,6 @@ module _ {A : Type 0} (a b : List A) (k : ℕ) where
       let e : k ≡ length a + (k - length a) = omega arith in
       (ap (λ (i : ℕ). take i (a ++ b)) e ∙ take-append-add a b (k - length a), take_all k a h)
 
-  pub take_append : take k (a ++ b) ≡ take k a ++ take (k - length a) b
-  take_append =
-      ⊎_elim
-      (λ (h : k < length a). let w = take_within (omega arith) in rw (w.0, w.1) (sym (append-nil (take k a))))
-      (λ (h : length a ≤ k). let w = take_beyond h in rw (w.0, w.1))
-      (lt_or_le k (length a))
-
 -- Fields put from p on, as many as are left of k; then others from where these end, whether or not they were put.
 pub filled_turn : (o : List ℕ) (p q k : ℕ) (a b : List (List ℕ)) → p ≤ length o → q ≡ p + length (joined a)
     → stored (stored o p (joined (take k a))) q (joined (take (k - length a) b)) ≡ stored o p (joined (take k (a ++ b)))
@@ -59,7 +52,7 @@ filled_turn o p q k a b h e =
     let w = take_within a b k (omega arith) in rw (w.0, w.1, joined_nil, stored_nil))
     (λ (l : length a ≤ k).
     let w = take_beyond a b k l in rw (w.0, w.1, e, joined_append) (stored_append o p (joined a) h (joined (take (k - length a) b))))
-    (lt_or_le k (length a))
+    (cases_lt k (length a))
 
 pub length_filled : (o : List ℕ) (p k : ℕ) (a : List (List ℕ)) → p + length (joined a) ≤ length o
     → length (stored o p (joined (take k a))) ≡ length o

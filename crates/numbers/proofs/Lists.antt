@@ -1,13 +1,14 @@
 -- Laws of a part of a list, and of a buffer in which bytes were put at a place.
 use mathlib.Core.Path.{◌≡◌, refl, ◌∙◌}
 use mathlib.Core.List.{List, [], ◌∷◌, ◌++◌, append_assoc, append-nil}
-use Prim.Native.Nat.{ℕ, zero, suc, ◌+◌, ◌-◌, ◌≤◌, ◌<◌, min}
-use native.Mathlib.Nat.{add_assoc, add-zero, zero-add, suc-add, zero-min, min-zero, suc-min-suc}
+use Prim.Native.Nat.{ℕ, suc, ◌+◌, ◌-◌, ◌≤◌, ◌<◌}
+use native.Mathlib.Nat.{add_assoc, add-zero, zero-add}
 use native.Mathlib.Numerals.{add-one}
 use native.Mathlib.Omega.{arith}
 use lib.ListN.{length, get_or, take, drop, set, length-append, length-take, length-drop, take-append-drop, drop_of_length-le}
 use lib.Seq.{length-take-le, take_all, take-nil, drop-cons, take-append_seam, drop-append_seam, take-take, drop-drop, take-add, get_or-take, get_or-drop, set_split, take_at, drop_at}
 use borrow.Author.Tests.{le-leb, lt-leb}
+use Rattle.std.proofs.lemmas.List.{drop-take}
 use Rattle.numbers.specs.Numbers.{part}
 use Rattle.numbers.specs.Places.{stored, put}
 
@@ -28,15 +29,10 @@ module _ {A : Type 0} where
   part_add l p w v = rw (take-add, drop-drop)
 
   -- A part of a front, of what follows a place, of a part, and of either side of ++.
-  drop_take : (q w : ℕ) (l : List A) → drop q (take (q + w) l) ≡ take w (drop q l)
-  drop_take zero w l = rw zero-add
-  drop_take (suc q) w [] = rw (suc-add, take-nil)
-  drop_take (suc q) w (x ∷ l) = rw suc-add (drop_take q w l)
-
   pub part_take : (l : List A) (n q v : ℕ) → q + v ≤ n → part (take n l) q v ≡ part l q v
   part_take l n q v h =
       let e : n ≡ q + (n - q) = omega arith in
-      let le : v ≤ n - q = omega arith in rw (e, drop_take, take-take v (n - q) (drop q l) le)
+      let le : v ≤ n - q = omega arith in rw (e, drop-take, take-take v (n - q) (drop q l) le)
 
   pub part_drop : (l : List A) (k p w : ℕ) → part (drop k l) p w ≡ part l (k + p) w
   part_drop l k p w = rw drop-drop
@@ -49,14 +45,6 @@ module _ {A : Type 0} where
 
   pub part_rest : (l : List A) (p w : ℕ) → length l ≤ p + w → part l p w ≡ drop p l
   part_rest l p w h = take_all w (drop p l) (simp length-drop (omega arith))
-
-  take_min : (w : ℕ) (l : List A) → take (min w (length l)) l ≡ take w l
-  take_min zero l = rw zero-min
-  take_min (suc w) [] = rw min-zero
-  take_min (suc w) (x ∷ l) = rw (suc-min-suc, take_min w l)
-
-  pub part_min : (l : List A) (p w : ℕ) → part l p (min w (length l - p)) ≡ part l p w
-  part_min l p w = rw (← length-drop p l, take_min)
 
 module _ {A : Type 0} where
   -- What `stored` is, for rw.

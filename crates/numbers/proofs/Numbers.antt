@@ -2,28 +2,24 @@
 use mathlib.Core.Path.{◌≡◌, refl}
 use mathlib.Core.Bool.{Bool, true, false}
 use mathlib.Core.List.{List, [], ◌∷◌, ◌++◌}
-use mathlib.Core.Logic.{◌⊎◌, inl, inr, ⊎_elim}
+use mathlib.Core.Logic.{⊎_elim}
 use Prim.Native.Nat.{ℕ, zero, suc, ◌+◌, ◌-◌, ◌*◌, ◌/◌, ◌%◌, ◌^◌, ◌≤◌, ◌<◌, max}
 use native.Mathlib.Nat.{zero-add, suc-add, mul_assoc, mod-eq_of_lt, div-one, div-div-eq-div-mul, pow-zero, pow-suc, pow-succ', pow-le-pow_right, one-le-pow, not-le_of_lt}
 use native.Mathlib.Nat.{lt_of_not-le, le_trans, lt_of_lt_of_le, lt_of_le_of_lt, eq-or-lt_of_le, mul-suc, suc-mul, min-le_left}
 use native.Mathlib.Omega.{arith}
+use mir.Syntax.{w16, w32}
+use mir.Val.{Fits}
 use lib.Arith.{mod-mul}
 use lib.Count.{count_leading_zeros, leading_top}
 use lib.Pow.{pow-add, pow_mono}
 use lib.Dec.{ltb, lit<}
 use lib.ListN.{length, get_or, drop, length-take, get_or-eq_default}
-use borrow.Author.Tests.{ltb-true, ltb-false, lt-ltb, le-ltb, ne_eqb, eqb-true}
+use borrow.Author.Tests.{ltb-true, ltb-false, ne_eqb, eqb-true}
 use Rattle.std.specs.Int.{div_ceil}
+use Rattle.std.proofs.lemmas.Bool.{cases_lt}
 use Rattle.numbers.specs.Numbers.{le, unle, part, num, saturated, least_from, width, field_size}
 use Rattle.numbers.proofs.Lists.{length_part, get_d_part, part_add}
-
--- The test of two numbers, as a choice.
-pub lt_or_le : (a b : ℕ) → (a < b) ⊎ (b ≤ a)
-lt_or_le a b = by_test (ltb a b) refl
-  where
-    by_test : (t : Bool) → ltb a b ≡ t → (a < b) ⊎ (b ≤ a)
-    by_test true e = inl (ltb-true a b e)
-    by_test false e = inr (ltb-false a b e)
+use Rattle.numbers.proofs.Least.{least_from_le, least_le, least_before, least_at}
 
 -- x in w bytes: w numbers, each below 256.
 pub le_length : (w x : ℕ) → length (le w x) ≡ w
@@ -84,48 +80,48 @@ module _ (l : List ℕ) where
       ⊎_elim
       (λ (g : i < w). rw (get_d_part l p w i 0 g) (h (p + i)))
       (λ (g : w ≤ i). rw (get_or-eq_default (part l p w) 0 {n = i} (simp length-take (omega arith))) (lit< tt))
-      (lt_or_le i w)
+      (cases_lt i w)
 
   pub num_lt : (p w : ℕ) → ((i : ℕ) → get_or l i 0 < 256) → num l p w < 256 ^ w
   unfolding num
   num_lt p w h =
       lt_of_lt_of_le (unle_lt (part l p w) (part_bytes p w h)) (pow-le-pow_right (lit< tt) (simp length-take (min-le_left w (length (drop p l)))))
 
--- The first width from k on that holds x, k + f if none before it does: within these, it holds x unless it is the last, and no
--- smaller one does.
-abbrev Least : ℕ → ℕ → ℕ → ℕ → Type 0
-Least f k x r = (k ≤ r) × (r ≤ k + f) × (r < k + f → x < 256 ^ r) × ((j : ℕ) → k ≤ j → x < 256 ^ j → r ≤ j)
+-- A number in a field fits a type of as many bytes or more.
+module _ (l : List ℕ) (p w x : ℕ) (stored : x ≡ num l p w) (known : (i : ℕ) → get_or l i 0 < 256) where
+  num_within : (k : ℕ) → w ≤ k → x < 256 ^ k
+  num_within k few = rw stored (lt_of_lt_of_le (num_lt l p w known) (pow-le-pow_right (lit< tt) few))
 
-above : (x j k : ℕ) → 256 ^ k ≤ x → x < 256 ^ j → k < j
-above x j k h l = lt_of_not-le (λ (g : j ≤ k). not-le_of_lt (lt_of_lt_of_le l (pow-le-pow_right (lit< tt) g)) h)
+  pub num_fits_w16 : w ≤ 2 → Fits w16 x
+  num_fits_w16 few = omega (arith, num_within 2 few)
 
-least : (f k x : ℕ) → Least f k x (least_from f k x)
-unfolding least_from
-least zero k x = (omega arith, omega arith, λ h. omega arith, λ j a b. a)
-least (suc f) k x =
-    ⊎_elim
-    (λ (h : x < 256 ^ k). rw (lt-ltb x (256 ^ k) h) (omega arith, omega arith, λ l. h, λ j a b. a))
-    (λ (h : 256 ^ k ≤ x).
-    let r = least f (k + 1) x in
-    rw (le-ltb x (256 ^ k) h)
-    (omega arith, omega arith, λ l. r.2 (omega arith), λ j a b. r.3 j (omega (arith, above x j k h b)) b))
-    (lt_or_le x (256 ^ k))
+  pub num_fits_w32 : w ≤ 4 → Fits w32 x
+  num_fits_w32 few = omega (arith, num_within 4 few)
 
-pub width_pos : (x : ℕ) → 1 ≤ width x
-unfolding width
-width_pos x = (least 7 1 x).0
+-- The width of a count: from 1 to 8, and the least that holds it.
+module _ (x : ℕ) where
+  abbrev in_width : ℕ → Bool
+  in_width k = ltb x (256 ^ k)
 
-pub width_le : (x : ℕ) → width x ≤ 8
-unfolding width
-width_le x = (least 7 1 x).1
+  pub width_pos : 1 ≤ width x
+  unfolding width
+  width_pos = least_from_le in_width 7 1
 
-pub width_least : (x k : ℕ) → 1 ≤ k → x < 256 ^ k → width x ≤ k
-unfolding width
-width_least x k = (least 7 1 x).3 k
+  pub width_le : width x ≤ 8
+  unfolding width
+  width_le = least_le in_width 7 1
 
-holds : (x : ℕ) → width x < 8 → x < 256 ^ width x
-unfolding width
-holds x = (least 7 1 x).2
+  pub width_least : (k : ℕ) → 1 ≤ k → x < 256 ^ k → width x ≤ k
+  unfolding width
+  width_least k pos h =
+      ⊎_elim
+      (λ (l : k < width x). absurd (not-le_of_lt h (ltb-false x (256 ^ k) (least_before in_width 7 1 k pos l))))
+      (λ (l : width x ≤ k). l)
+      (cases_lt k (width x))
+
+  holds : width x < 8 → x < 256 ^ width x
+  unfolding width
+  holds l = ltb-true x _ (least_at in_width 7 1 l)
 
 pub width_holds : (x : ℕ) → x < 2 ^ 64 → x < 256 ^ width x
 width_holds x h =
@@ -162,7 +158,7 @@ width_bits x h =
     let zero : x ≡ 0 = omega arith in
     rw zero (width_zero 0 refl))
     (λ (l : 1 ≤ x). omega (arith, bytes_of_bits x h (λ e. omega arith), width_pos x))
-    (lt_or_le x 1)
+    (cases_lt x 1)
 
 pub saturated_small : (x : ℕ) → x < 2 ^ 64 → saturated x ≡ x
 saturated_small x h = omega arith
@@ -179,7 +175,7 @@ saturated_mul (suc a) b =
     ⊎_elim
     (λ (h : b < 2 ^ 64). rw (saturated_small b h))
     (λ (h : 2 ^ 64 ≤ b). simp suc-mul (omega arith))
-    (lt_or_le b (2 ^ 64))
+    (cases_lt b (2 ^ 64))
 
 -- The sizes of a field.
 module _ (s : ℕ) where
@@ -192,13 +188,9 @@ module _ (s : ℕ) where
       let f : false ≡ true = rw (ne_eqb s 2 (λ x. omega arith), ne_eqb s 4 (λ x. omega arith), ne_eqb s 8 (λ x. omega arith)) at e in
       let z : ◌≡◌ {A = ℕ} 0 1 = cc in
       omega arith)
-      (lt_or_le s 9)
+      (cases_lt s 9)
 
-  -- One that is not 2 is 4 or more, and one that is not 4 either is 8.
+  -- One that is neither 2 nor 4 is 8.
   pub field_size_8 : field_size s ≡ true → (s ≡ 2 → ⊥) → (s ≡ 4 → ⊥) → s ≡ 8
   unfolding field_size
   field_size_8 e h g = eqb-true s 8 (rw (ne_eqb s 2 h, ne_eqb s 4 g) at e)
-
-  pub field_size_4 : field_size s ≡ true → (s ≡ 2 → ⊥) → 4 ≤ s
-  field_size_4 e h =
-      ⊎_elim (λ (l : s < 4). let eight = field_size_8 e h (λ x. omega arith) in omega (arith, eight)) (λ (l : 4 ≤ s). l) (lt_or_le s 4)

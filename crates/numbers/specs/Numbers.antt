@@ -26,14 +26,14 @@ num l p w = unle (part l p w)
 abbrev pub saturated : ℕ → ℕ
 saturated x = min x (2 ^ 64 - 1)
 
--- The first of k, k + 1, .. , k + f that is a number of bytes that holds x, k + f if none before it is.
-unfoldable pub least_from : ℕ → ℕ → ℕ → ℕ
-least_from zero k x = k
-least_from (suc f) k x = let later = least_from f (k + 1) x in pick (ltb x (256 ^ k)) k later
+-- The least of u, u + 1, .. , u + k of which f holds, u + k if it holds of none before that.
+unfoldable pub least_from : (ℕ → Bool) → ℕ → ℕ → ℕ
+least_from f zero u = u
+least_from f (suc k) u = let later = least_from f k (u + 1) in pick (f u) u later
 
 -- The byte width of a count below 2^64: 1 for 0, else the least k with x < 256^k.
 unfoldable pub width : ℕ → ℕ
-width x = least_from 7 1 x
+width x = least_from (λ k. ltb x (256 ^ k)) 7 1
 
 -- The sizes that offsets and lengths may have: 2, 4 or 8 bytes.
 unfoldable pub field_size : ℕ → Bool

@@ -3,8 +3,8 @@
 
 #![tactic(auto)]
 
-ghost use Rattle.std.specs.Prelude.{◌≡◌, ◌+◌, ◌≤◌, min, ◌*◌, leb, length};
-ghost use Rattle.numbers.specs.Numbers.{pick, le, part, num, saturated, width, field_size};
+ghost use Rattle.std.specs.Prelude.{◌≡◌, ◌+◌, min, leb, length};
+ghost use Rattle.numbers.specs.Numbers.{pick, le, part, num, width, field_size};
 ghost use Rattle.numbers.specs.Places.{put};
 
 // The number in the `width` bytes at `at`, lowest first; of a field that runs past the end, its bytes before the end. A width above 8
@@ -19,7 +19,7 @@ pub fn read_le(data: &[u8], at: usize, width: usize) -> u64
 }
 
 // Puts x at `at`, lowest byte first, into `width` bytes, where these fit, and gives the place after them; else changes nothing and gives
-// `at`, which is promised, so no Option. By remainders, since a copy of a varying width out of `to_le_bytes` was measured slower.
+// `at`, which is promised and can't fail, so no Option. By remainders: a width may be above the eight bytes that `to_le_bytes` has.
 #[tactic(auto, using(crate::proofs::Writing::written_start, crate::proofs::Writing::written_end, crate::proofs::Writing::not_written))]
 pub fn write_le(data: &mut [u8], at: usize, x: u64, width: usize) -> usize
     ensures { («data».new ≡ put «data».old at (le width x)) × (result ≡ pick (leb (at + width) (length «data».old)) (at + width) at) }
@@ -43,7 +43,7 @@ pub fn part(data: &[u8], at: u64, count: u64) -> &[u8]
     &rest[..count.min(rest.len() as u64) as usize]
 }
 
-// Puts items at `at` where they fit; else changes nothing.
+// Puts items at `at` where they fit; else changes nothing, which is promised and can't fail, so no Option.
 #[tactic(auto, using(crate::proofs::Copying::items_put, crate::proofs::Lists::put_not))]
 pub fn put<T: Copy>(data: &mut [T], at: usize, items: &[T])
     ensures { «data».new ≡ put «data».old at items.now }
@@ -63,8 +63,7 @@ pub fn bytes_for_max_records(max_nrec: u64) -> u8
     bits.div_ceil(8).max(1) as u8
 }
 
-// Whether offsets or lengths may have this size. Each of the two has its own refusal, and functions that give them make the callers no shorter
-// all in all.
+// Whether offsets or lengths may have this size.
 #[tactic(auto, unfolding(crate::specs::Numbers::field_size))]
 pub fn is_field_size(size: u8) -> bool
     ensures { result ≡ field_size size }

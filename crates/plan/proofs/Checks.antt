@@ -1,13 +1,14 @@
 -- The planner's refusals 10 and 11, in the forms in which the code meets them, and what an accepted plan has passed.
-use mathlib.Core.Path.{◌≡◌, refl, sym}
-use mathlib.Core.Bool.{Bool, true, false, not, ◌||◌, ◌&&◌, true≢false}
+use mathlib.Core.Path.{◌≡◌, sym}
+use mathlib.Core.Bool.{Bool, true, false, not, ◌||◌}
 use mathlib.Core.List.{List, [], ◌∷◌}
 use Prim.Native.Nat.{ℕ, suc, ◌≤◌, ◌<◌}
 use native.Mathlib.Omega.{arith}
-use lib.Dec.{leb, ltb, eqb}
+use lib.Dec.{leb, eqb}
 use borrow.Author.Tests.{leb-true, ltb-true, not-true, lt-ltb, le-leb, ne_eqb}
-use Rattle.numbers.specs.Numbers.{field_size}
-use Rattle.refusal.specs.Answer.{Answer, accepted, refused, or_else}
+use Rattle.std.proofs.lemmas.Bool.{and_parts}
+use Rattle.refusal.specs.Answer.{accepted, refused, or_else}
+use Rattle.refusal.proofs.Answers.{test_passed}
 use Rattle.node_info.specs.Capacity.{subtree_capacity, node_capacity}
 use Rattle.plan.specs.Steps.{Passed}
 use Rattle.plan.specs.Planned.{thin, plan_depth, empty_level, plan_figures, plan_answer}
@@ -44,15 +45,6 @@ pub record Plannable (n : ℕ) (g : Geometry) : Type 0 where
   pub enough : n ≤ subtree_capacity g (plan_depth n g)
   pub thick : 0 < n → thin (subtree_capacity g) (plan_depth n g) n ≡ false
 
-passed : (t : Bool) (k : ℕ) (values figures : List ℕ) (rest : Answer) → or_else t (refused k values) rest ≡ accepted figures
-    → (t ≡ true) × (rest ≡ accepted figures)
-passed true k values figures rest e = (refl, e)
-passed false k values figures rest e = let z : ◌≡◌ {A = ℕ} 0 1 = cc in absurd (omega arith)
-
-both : (a b : Bool) → (a && b) ≡ true → (a ≡ true) × (b ≡ true)
-both true b e = (refl, e)
-both false b e = absurd (true≢false (sym e))
-
 not_thin : (n : ℕ) (t : Bool) → (eqb n 0 || not t) ≡ true → 0 < n → t ≡ false
 not_thin n t e h = not-true t (rw (ne_eqb n 0 (omega arith)) at e)
 
@@ -61,13 +53,13 @@ module _ (n : ℕ) (g : Geometry) where
       → Plannable n g × (figures ≡ plan_figures n g)
   unfolding plan_answer
   accepted_plannable figures e =
-      let p4 = passed (field_size g.offset_size) 4 (g.offset_size ∷ []) figures _ e in
-      let p7 = passed (leb 10 g.node_size && leb g.node_size 65536) 7 (g.node_size ∷ []) figures _ p4.1 in
-      let p8 = passed (ltb 0 g.record_size) 8 [] figures _ p7.1 in
-      let p9 = passed (leb n 16777215) 9 (n ∷ []) figures _ p8.1 in
-      let p10 = passed (holding n g) 10 (empty_level n g ∷ []) figures _ p9.1 in
-      let p11 = passed (eqb n 0 || not (thin (subtree_capacity g) (plan_depth n g) n)) 11 [] figures _ p10.1 in
-      let sizes = both (leb 10 g.node_size) (leb g.node_size 65536) p7.0 in
+      let p4 = test_passed 4 _ e in
+      let p7 = test_passed 7 _ p4.1 in
+      let p8 = test_passed 8 _ p7.1 in
+      let p9 = test_passed 9 _ p8.1 in
+      let p10 = test_passed 10 _ p9.1 in
+      let p11 = test_passed 11 _ p10.1 in
+      let sizes = and_parts (leb 10 g.node_size) (leb g.node_size 65536) p7.0 in
       let same : accepted figures ≡ accepted (plan_figures n g) = sym p11.1 in
       let pass : Passed n g =
       record {

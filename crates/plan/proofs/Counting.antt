@@ -14,10 +14,10 @@ use lib.Seq.{get_or-append_seam}
 use mathlib.Core.List.{List, [], ◌∷◌, ◌++◌}
 use Rattle.plan.specs.Steps.{capacity_in, over_children, Countable, Counted, FewChildren}
 use Rattle.plan.specs.Tree.{below, nodes, leaves}
-use Rattle.plan.specs.Planned.{taken, distribution, plan_tree, thin}
+use Rattle.plan.specs.Planned.{taken, keeping, distribution, plan_tree, thin}
 use Rattle.plan.specs.declared.Distribution.{Distribution}
 use Rattle.plan.specs.declared.Counts.{Counts}
-use Rattle.plan.proofs.Distributing.{share, extra, taken_one, taken_quotient, taken_pos, taken_le, extra_lt, all_children_more, all_children_less}
+use Rattle.plan.proofs.Distributing.{share, extra, taken_pos, taken_le, extra_lt, all_children_more, all_children_less}
 use Rattle.plan.proofs.Plans.{plan_agree, thin_agree, plan_nodes, plan_leaves, plan_nodes_le}
 use Rattle.plan.proofs.Thin.{thin_pos, thin_children}
 use Rattle.plan.proofs.Trees.{leaves_le_nodes}
@@ -32,27 +32,14 @@ power_pos d h = rw (power d h) (one-le-pow (d + 1) 2 (lit< tt))
 pub thin_test : (d n : ℕ) → d ≤ 32 → ltb n (1 * 2 ^ (d + 1) % 2 ^ 64 - 1) ≡ ltb n (2 ^ (d + 1) - 1)
 thin_test d n h = rw (power d h)
 
--- What a node keeps and deals, by the ways out of `distribute`.
-pub distribute_one : (most n : ℕ) → n / 2 ≤ most
-    → ◌≡◌ {A = Distribution} (record { kept = 1; base = (n - 1) / 2; extra = (n - 1) % 2 }) (distribution most n)
-distribute_one most n h = rw (taken_one most n (omega arith))
-
--- Only where no child holds any can all be kept, and then nothing is left to deal.
-pub distribute_more : (most n : ℕ) → most < n / 2 → n < 2 ^ 64
-    → ◌≡◌ {A = Distribution}
-    (record {
-      kept = n / (most + 1);
-      base = (n - n / (most + 1)) / min (n / (most + 1) + 1) (2 ^ 64 - 1);
-      extra = (n - n / (most + 1)) % min (n / (most + 1) + 1) (2 ^ 64 - 1);
-    })
-    (distribution most n)
-distribute_more most n h l =
-    let many : taken most n ≡ n / (most + 1) = taken_quotient most n (omega arith) in
+-- What a node distributes: only where all is kept may the children be too many to be counted, and then nothing is left for them.
+pub keeping_lem : (k m : ℕ) → k + m < 2 ^ 64
+    → ◌≡◌ {A = Distribution} (record { kept = k; base = m / min (k + 1) (2 ^ 64 - 1); extra = m % min (k + 1) (2 ^ 64 - 1) }) (keeping k m)
+keeping_lem k m h =
     ⊎_elim
-    (λ (all : n - n / (most + 1) ≡ 0). rw (many, all, zero-div, zero-div, zero-mod, zero-mod))
-    (λ (some : 0 < n - n / (most + 1)).
-    let few : min (n / (most + 1) + 1) (2 ^ 64 - 1) ≡ n / (most + 1) + 1 = omega arith in rw (many, few))
-    (eq-zero-or-pos (n - n / (most + 1)))
+    (λ (none : m ≡ 0). rw (none, zero-div, zero-div, zero-mod, zero-mod))
+    (λ (some : 0 < m). let few : min (k + 1) (2 ^ 64 - 1) ≡ k + 1 = omega arith in rw few)
+    (eq-zero-or-pos m)
 
 -- A leaf.
 pub count_leaf : (b : List Level) (n : ℕ) → length b ≡ 0 → Counted b n (record { nodes = 1; leaves = 1 })

@@ -1,5 +1,5 @@
 -- Laws of the depth: the least level that is enough, the levels needed for it, and the search for it.
-use mathlib.Core.Path.{◌≡◌, refl, sym, ◌∙◌}
+use mathlib.Core.Path.{◌≡◌, sym}
 use mathlib.Core.Bool.{Bool, true, false, ◌||◌, true≢false}
 use mathlib.Core.Logic.{⊎_elim}
 use Prim.Native.Nat.{ℕ, zero, suc, ◌+◌, ◌-◌, ◌^◌, ◌≤◌, ◌<◌, min, zero-le}
@@ -8,58 +8,16 @@ use native.Mathlib.Decide.{le_ind}
 use native.Mathlib.Omega.{arith}
 use lib.Dec.{ltb, eqb, lit<}
 use borrow.Author.Tests.{le-leb, lt-leb, leb-true, leb-false, lt-ltb, le-ltb, ltb-true, ltb-false, eq-eqb, ne_eqb, eqb-true, eqb-false}
-use Rattle.numbers.specs.Numbers.{pick}
-use Rattle.numbers.proofs.Numbers.{lt_or_le}
+use Rattle.std.proofs.lemmas.Bool.{cases_lt}
+use Rattle.numbers.proofs.Least.{least_le, least_before, least_at, least_is}
 use Rattle.node_info.specs.Capacity.{subtree_capacity, node_capacity}
 use Rattle.node_info.specs.Table.{info_at}
 use Rattle.node_info.specs.declared.NodeInfo.{NodeInfo}
 use Rattle.node_info.proofs.Capacities.{node_zero, subtree_zero, subtree_suc, node_falls, subtree_none, subtree_power, subtree_rises}
-use Rattle.plan.specs.Planned.{least_level, plan_depth, empty_level}
+use Rattle.plan.specs.Planned.{plan_depth, empty_level}
 use Rattle.plan.specs.Steps.{Passed, Found}
 use Rattle.plan.proofs.Thin.{Levels}
 use Rattle.node_info.specs.declared.Geometry.{Geometry}
-
--- The least level of which f holds.
-module _ (f : ℕ → Bool) where
-  abbrev Least : ℕ → ℕ → ℕ → Type 0
-  Least k u r = (r ≤ u + k) × ((v : ℕ) → u ≤ v → v < r → f v ≡ false) × (r < u + k → f r ≡ true)
-
-  least_step : (k u : ℕ) (b : Bool) → f u ≡ b → (r : ℕ) → Least k (u + 1) r → Least (suc k) u (pick b u r)
-  least_step k u true e r later = (omega arith, λ v a l. absurd (not-le_of_lt l a), λ l. e)
-  least_step k u false e r later = (
-    omega arith,
-    λ v a l. ⊎_elim (λ (same : u ≡ v). rw (← same) e) (λ (above : u < v). later.1 v (omega arith) l) (eq-or-lt_of_le a),
-    λ l. later.2 (omega arith),
-  )
-
-  least : (k u : ℕ) → Least k u (least_level f k u)
-  unfolding least_level
-  least zero u = (omega arith, λ v a l. absurd (not-le_of_lt l a), λ l. absurd (omega arith))
-  least (suc k) u = least_step k u (f u) refl (least_level f k (u + 1)) (least k (u + 1))
-
-  module _ (k : ℕ) where
-    least_le : least_level f k 0 ≤ k
-    least_le = omega (arith, (least k 0).0)
-
-    least_before : (v : ℕ) → v < least_level f k 0 → f v ≡ false
-    least_before v h = (least k 0).1 v zero-le h
-
-    least_at : least_level f k 0 < k → f (least_level f k 0) ≡ true
-    least_at h = (least k 0).2 (omega arith)
-
-    least_is : (r : ℕ) → r < k → ((v : ℕ) → v < r → f v ≡ false) → f r ≡ true → least_level f k 0 ≡ r
-    least_is r h none here =
-        let below : least_level f k 0 ≤ r =
-        ⊎_elim
-        (λ (l : r < least_level f k 0). absurd (true≢false (sym here ∙ least_before r l)))
-        (λ (l : least_level f k 0 ≤ r). l)
-        (lt_or_le r (least_level f k 0)) in
-        let above : r ≤ least_level f k 0 =
-        ⊎_elim
-        (λ (l : least_level f k 0 < r). absurd (true≢false (sym (least_at (omega arith)) ∙ none _ l)))
-        (λ (l : r ≤ least_level f k 0). l)
-        (lt_or_le (least_level f k 0) r) in
-        omega arith
 
 -- 3^(u + 1) is far from being saturated at 2^64 - 1.
 unsaturated : (u c : ℕ) → u < 32 → min (3 ^ (u + 1) - 1) (2 ^ 64 - 1) ≤ c → 3 ^ (u + 1) ≤ c + 1
@@ -77,19 +35,19 @@ module _ (n : ℕ) (g : Geometry) where
   -- The depth is 32 at most; each level below is too small, and below 32 the depth is enough.
   pub depth_le : plan_depth n g ≤ 32
   unfolding plan_depth
-  depth_le = least_le _ 32
+  depth_le = least_le _ 32 0
 
   pub depth_small : (u : ℕ) → u < plan_depth n g → subtree_capacity g u < n
   unfolding plan_depth
-  depth_small u h = leb-false n (c u) (least_before _ 32 u h)
+  depth_small u h = leb-false n (c u) (least_before _ 32 0 u zero-le h)
 
   depth_enough : plan_depth n g < 32 → n ≤ c (plan_depth n g)
   unfolding plan_depth
-  depth_enough h = leb-true n _ (least_at _ 32 h)
+  depth_enough h = leb-true n _ (least_at _ 32 0 h)
 
   depth_is : (u : ℕ) → u < 32 → ((v : ℕ) → v < u → c v < n) → n ≤ c u → plan_depth n g ≡ u
   unfolding plan_depth
-  depth_is u h below enough = least_is _ 32 u h (λ v l. lt-leb n (c v) (below v l)) (le-leb n (c u) enough)
+  depth_is u h below enough = least_is _ 32 0 u zero-le h (λ v _ l. lt-leb n (c v) (below v l)) (le-leb n (c u) enough)
 
   pub depth_none : n ≡ 0 → plan_depth n g ≡ 0
   depth_none e = depth_is 0 (lit< tt) (λ v l. absurd (not-suc-le-zero l)) (rw e zero-le)
@@ -97,16 +55,16 @@ module _ (n : ℕ) (g : Geometry) where
   -- Each level before the first that holds none holds records, and that one none where it is needed.
   empty_before : (u : ℕ) → u < empty_level n g → 0 < m u
   unfolding empty_level
-  empty_before u h = let none = eqb-false (m u) 0 (least_before _ (plan_depth n g + 1) u h) in omega arith
+  empty_before u h = let none = eqb-false (m u) 0 (least_before _ (plan_depth n g + 1) 0 u zero-le h) in omega arith
 
   empty_at : empty_level n g ≤ plan_depth n g → m (empty_level n g) ≡ 0
   unfolding empty_level
-  empty_at h = eqb-true (m (least_level (λ u. eqb (m u) 0) (plan_depth n g + 1) 0)) 0 (least_at (λ u. eqb (m u) 0) (plan_depth n g + 1) (omega arith))
+  empty_at h = eqb-true (m _) 0 (least_at (λ u. eqb (m u) 0) (plan_depth n g + 1) 0 (omega arith))
 
   empty_is : (u : ℕ) → u ≤ plan_depth n g → ((v : ℕ) → v < u → 0 < m v) → m u ≡ 0 → empty_level n g ≡ u
   unfolding empty_level
   empty_is u h below none =
-      least_is _ (plan_depth n g + 1) u (omega arith) (λ v l. ne_eqb (m v) 0 (λ e. omega (arith, below v l))) (eq-eqb (m u) 0 none)
+      least_is _ (plan_depth n g + 1) 0 u zero-le (omega arith) (λ v _ l. ne_eqb (m v) 0 (λ e. omega (arith, below v l))) (eq-eqb (m u) 0 none)
 
   -- A level that is enough holds records where the levels below are too small, unless there are none.
   enough_some : (u : ℕ) → 0 < n → n ≤ c u → ((v : ℕ) → v < u → c v < n) → 0 < m u
@@ -149,7 +107,7 @@ module _ (n : ℕ) (g : Geometry) where
         (λ (at : empty_level n g ≡ u). let some = enough_some u p h (λ v b. (tried v b).0) in omega (arith, rw at at none))
         (λ (below : empty_level n g < u). omega (arith, (tried _ below).1))
         (eq-or-lt_of_le (omega arith))))
-        (lt_or_le (plan_depth n g) (empty_level n g)))))
+        (cases_lt (plan_depth n g) (empty_level n g)))))
         (eq-zero-or-pos n)
 
     pub found_enough : n ≤ subtree_capacity g u → Found n g info u
@@ -164,7 +122,7 @@ module _ (n : ℕ) (g : Geometry) where
           ⊎_elim
           (λ (l : plan_depth n g < u). absurd (not-le_of_lt (tried _ l).0 (depth_enough (omega arith))))
           (λ (l : u ≤ plan_depth n g). l)
-          (lt_or_le (plan_depth n g) u)
+          (cases_lt (plan_depth n g) u)
 
       pub empty_here : empty_level n g ≡ u
       empty_here = empty_is u beyond (λ v l. (tried v l).1) none
@@ -180,7 +138,7 @@ module _ (n : ℕ) (g : Geometry) where
         (λ (h : u < 23). h)
         (λ (h : 23 ≤ u).
         absurd (omega (arith, pass.few, subtree_power g pass.some 1 23 (le_trans some (node_falls g pass.some h)), subtree_rises g (omega (arith, pass.high)) h)))
-        (lt_or_le u 23)
+        (cases_lt u 23)
 
     -- Where each level needed for the depth holds records, the depth is 23 at most, and enough.
     module _ (test : holding ≡ true) where
@@ -197,7 +155,7 @@ module _ (n : ℕ) (g : Geometry) where
           (λ (h : 23 < plan_depth n g).
           let small = depth_small 23 h in omega (arith, level_low 23 small (needed (omega arith) 23 (omega arith))))
           (λ (h : plan_depth n g ≤ 23). h)
-          (lt_or_le 23 (plan_depth n g))
+          (cases_lt 23 (plan_depth n g))
 
       pub depth_holds_all : n ≤ subtree_capacity g (plan_depth n g)
       depth_holds_all = depth_enough (omega (arith, depth_le_23))
@@ -221,7 +179,7 @@ module _ (n : ℕ) (g : Geometry) where
           (λ (h : n ≤ c (empty_level n g)).
           let some = enough_some (empty_level n g) empty_needed.0 h (λ v l. depth_small v (omega (arith, empty_needed.1))) in
           absurd (omega (arith, empty_none)))
-          (lt_or_le (c (empty_level n g)) n)
+          (cases_lt (c (empty_level n g)) n)
 
       pub never_enough : (u : ℕ) → subtree_capacity g u < n
       never_enough u =
@@ -230,7 +188,7 @@ module _ (n : ℕ) (g : Geometry) where
           (le_ind (λ (k : ℕ). c k < n) empty_small
           (λ k l r. lt_of_le_of_lt (subtree_none g k (omega (arith, node_falls g pass.some (le_step l), empty_none))) r)
           u)
-          (lt_or_le u (empty_level n g))
+          (cases_lt u (empty_level n g))
 
   -- What the levels of a plan hold.
   pub depth_levels : 0 < g.record_size → ((u : ℕ) → u < plan_depth n g → 0 < node_capacity g (suc u))

@@ -1,4 +1,4 @@
--- What an internal node keeps and what it deals to its children.
+-- What an internal node keeps and what it distributes to its children.
 use mathlib.Core.Path.{◌≡◌, refl}
 use mathlib.Core.List.{◌++◌}
 use mathlib.Core.Logic.{⊎_elim}
@@ -6,10 +6,14 @@ use Prim.Native.Nat.{ℕ, ◌+◌, ◌-◌, ◌*◌, ◌/◌, ◌%◌, ◌≤◌
 use native.Mathlib.Nat.{mod-lt, div-add-mod, div-eq_of_lt, div-le_self, lt-mul-div-succ, mul-div-le, le-div_iff_mul-le, div-lt_iff_lt-mul, mul-le-mul_left, lt_of_mul-lt-mul_left, div-le_of_le-mul}
 use native.Mathlib.Numerals.{add-one}
 use native.Mathlib.Omega.{arith}
-use lib.ListN.{length, get_or, replicate}
-use Rattle.numbers.proofs.Numbers.{lt_or_le}
+use lib.ListN.{length, get_or, replicate, length-append, length-replicate}
+use Rattle.std.proofs.lemmas.Bool.{cases_lt}
 use Rattle.plan.specs.Planned.{ceil_div, taken, distributed, children}
-use Rattle.plan.proofs.Lists.{AllOf, all_of_two, all_of_at, sum_of, sum_of_two, length_two, first_run, second_run}
+use Rattle.std.specs.List.{All, sum_by}
+use Rattle.std.proofs.lemmas.List.Elements.{All-from_get_or}
+use Rattle.std.proofs.lemmas.List.Sums.{sum_by-append}
+use Rattle.std.proofs.lemmas.List.Folds.{sum_by-replicate}
+use Rattle.plan.proofs.Lists.{first_run, second_run}
 
 -- The quotient, rounded up, is one rounded down.
 pub ceil_floor : (c n : ℕ) → ceil_div (n - c) (c + 1) ≡ n / (c + 1)
@@ -21,7 +25,7 @@ ceil_floor c n =
     let k : c < c + 1 = omega arith in
     rw (e, div-eq_of_lt k, div-eq_of_lt l))
     (λ (h : c ≤ n). let e : n - c + (c + 1 - 1) ≡ n = omega arith in rw e)
-    (lt_or_le n c)
+    (cases_lt n c)
 
 pub taken_is : (c n : ℕ) → taken c n ≡ max 1 (n / (c + 1))
 unfolding taken
@@ -79,21 +83,21 @@ children_is c n = refl
 
 pub length_children : (c n : ℕ) → length (children c n) ≡ taken c n + 1
 length_children c n =
-    rw (children_is, length_two) (omega (arith, extra_lt c n))
+    rw (children_is, length-append, length-replicate, length-replicate) (omega (arith, extra_lt c n))
 
 pub children_some : (c n : ℕ) → 0 < length (children c n)
 children_some c n = omega (arith, length_children c n)
 
 -- A sum over the children goes by their two numbers.
 pub sum_of_children : (f : ℕ → ℕ) (c n : ℕ)
-    → sum_of f (children c n) ≡ extra c n * f (share c n + 1) + (taken c n + 1 - extra c n) * f (share c n)
-sum_of_children f c n = rw (children_is c n, sum_of_two)
+    → sum_by f (children c n) ≡ extra c n * f (share c n + 1) + (taken c n + 1 - extra c n) * f (share c n)
+sum_of_children f c n = rw (children_is c n, sum_by-append f, sum_by-replicate f, sum_by-replicate f)
 
 -- All that is not kept is distributed.
 shares : (r s b p : ℕ) → r + s ≡ p → r * (b + 1) + s * b ≡ p * b + r
 shares r s b p e = rw (← e) (omega arith)
 
-pub sum_children : (c n : ℕ) → sum_of (λ x. x) (children c n) ≡ n - taken c n
+pub sum_children : (c n : ℕ) → sum_by (λ x. x) (children c n) ≡ n - taken c n
 sum_children c n =
     let p = taken c n + 1 in
     let e : extra c n + (p - extra c n) ≡ p = omega (arith, extra_lt c n) in
@@ -108,12 +112,17 @@ child_less c n i h l =
     rw children_is (second_run (extra c n) (taken c n + 1 - extra c n) (share c n + 1) (share c n) i h (omega arith))
 
 -- What holds of both numbers, of the larger where there is one, holds of every child.
-pub all_children : (P : ℕ → Type 0) (c n : ℕ) → (0 < extra c n → P (share c n + 1)) → P (share c n) → AllOf P (children c n)
+pub all_children : (P : ℕ → Type 0) (c n : ℕ) → (0 < extra c n → P (share c n + 1)) → P (share c n) → All P (children c n)
 all_children P c n h l =
-    rw children_is (all_of_two P (extra c n) (taken c n + 1 - extra c n) (share c n + 1) (share c n) h (λ _. l))
+    All-from_get_or P (children c n) 0
+    (λ i b.
+    ⊎_elim
+    (λ (first : i < extra c n). rw (child_more c n i first) (h (omega arith)))
+    (λ (other : extra c n ≤ i). rw (child_less c n i other (omega (arith, b, length_children c n))) l)
+    (cases_lt i (extra c n)))
 
 -- A child has no more than fits its subtree, and no fewer than any b that all can have.
-pub children_le : (c n : ℕ) → AllOf (λ x. x ≤ c) (children c n)
+pub children_le : (c n : ℕ) → All (λ x. x ≤ c) (children c n)
 children_le c n =
     let p = taken c n + 1 in
     let fits : n - taken c n ≤ p * c = omega (arith, taken_enough c n) in
@@ -121,16 +130,16 @@ children_le c n =
     (λ h. rw add-one (lt_of_mul-lt-mul_left p {m = share c n} {n = c} (omega (arith, share_extra c n))))
     (div-le_of_le-mul p fits)
 
-pub children_ge : (b c n : ℕ) → b * (taken c n + 1) + taken c n ≤ n → AllOf (λ x. b ≤ x) (children c n)
+pub children_ge : (b c n : ℕ) → b * (taken c n + 1) + taken c n ≤ n → All (λ x. b ≤ x) (children c n)
 children_ge b c n h =
     let least : b ≤ share c n = (le-div_iff_mul-le {k = taken c n + 1} {x = b} {y = n - taken c n} (omega arith)).1 (omega arith) in
     all_children (λ x. b ≤ x) c n (λ _. omega arith) least
 
 -- And what holds of every child holds of both.
 module _ (P : ℕ → Type 0) (c n : ℕ) where
-  pub all_children_less : AllOf P (children c n) → P (share c n)
+  pub all_children_less : All P (children c n) → P (share c n)
   all_children_less a =
-      rw (child_less c n (taken c n) (omega (arith, extra_lt c n)) (omega arith)) at (all_of_at P (children c n) (taken c n) a (omega (arith, length_children c n)))
+      rw (child_less c n (taken c n) (omega (arith, extra_lt c n)) (omega arith)) at (a (taken c n) 0 (omega (arith, length_children c n)))
 
-  pub all_children_more : 0 < extra c n → AllOf P (children c n) → P (share c n + 1)
-  all_children_more h a = rw (child_more c n 0 h) at (all_of_at P (children c n) 0 a (children_some c n))
+  pub all_children_more : 0 < extra c n → All P (children c n) → P (share c n + 1)
+  all_children_more h a = rw (child_more c n 0 h) at (a 0 0 (children_some c n))

@@ -2,11 +2,11 @@
 use mathlib.Core.Path.{◌≡◌, refl, sym, ap, ◌∙◌}
 use mathlib.Core.Bool.{Bool, true, false, not, ◌||◌, ◌&&◌}
 use mathlib.Core.List.{[]}
-use Prim.Native.Nat.{ℕ, ◌+◌, ◌-◌, ◌*◌, ◌%◌, ◌^◌, ◌≤◌, ◌<◌}
+use Prim.Native.Nat.{ℕ, ◌+◌, ◌-◌, ◌*◌, ◌^◌, ◌≤◌, ◌<◌}
 use native.Mathlib.Nat.{mul-le-mul}
 use native.Mathlib.Omega.{arith}
 use lib.Dec.{ltb, eqb}
-use borrow.Author.Tests.{not-true, eq-eqb, ne_eqb}
+use borrow.Author.Tests.{not-true, ne_eqb}
 use mir.Syntax.{w64}
 use mir.Val.{Fits}
 use Rattle.refusal.specs.Answer.{accepted, refused}
@@ -23,24 +23,15 @@ use Rattle.plan.specs.declared.Counts.{Counts}
 use Rattle.plan.specs.Planned.{thin, plan_depth, planned, plan_figures, plan_answer, Laid}
 use Rattle.plan.proofs.Accepted.{thin_plan}
 use Rattle.plan.proofs.Checks.{checks_11, checks_passed}
-use Rattle.plan.proofs.Counting.{thin_test}
 use Rattle.plan.proofs.Depths.{depth_small}
 use Rattle.plan.proofs.Plans.{plan_agree, thin_agree}
 use Rattle.node_info.specs.declared.Geometry.{Geometry}
-
--- The test for a thin root, where there are no records and where there are.
-pub thin_none : (d n : ℕ) → n ≡ 0 → false ≡ (not (eqb n 0) && ltb n (2 ^ (d + 1) - 1))
-thin_none d n e = rw (eq-eqb n 0 e)
-
-pub thin_some : (d n : ℕ) → (n ≡ 0 → ⊥) → d ≤ 32
-    → ltb n (1 * 2 ^ (d + 1) % 2 ^ 64 - 1) ≡ (not (eqb n 0) && ltb n (2 ^ (d + 1) - 1))
-thin_some d n ne h = rw (ne_eqb n 0 ne, thin_test d n h)
 
 either : (a b : Bool) → (a || not b) ≡ not (not a && b)
 either true b = refl
 either false b = refl
 
--- `lay_out_passed`, where the search has found the depth.
+-- `Planning::lay_out`, where the search has found the depth.
 module _ (n : ℕ) (g : Geometry) (pass : Passed n g) (i : NodeInfo) (d : ℕ) (found : Found n g i d) where
   pub level_deep : d ≤ 32
   level_deep = omega (arith, found.low)

@@ -6,14 +6,15 @@ use native.Mathlib.Omega.{arith}
 use Rattle.plan.specs.Tree.{Tree, sum_kids, between, count, size, below, nodes, leaves}
 use Rattle.plan.specs.Planned.{taken, children, plan_tree, thin}
 use Rattle.plan.proofs.Distributing.{sum_of_children, share, extra, length_children, children_some, sum_children, children_le, taken_pos, taken_le, taken_most}
-use Rattle.plan.proofs.Lists.{all_of_map, all_of_both, sum_of, sum_of_cong, sum_kids_of, between_of, all_kids_of}
+use Rattle.std.specs.List.{All, sum_by}
+use Rattle.plan.proofs.Lists.{sum_by_cong, sum_kids_of, between_of, all_kids_of}
 use Rattle.plan.proofs.Thin.{Levels, levels_below, thin_pos, thin_children}
 use Rattle.plan.proofs.Trees.{Within, Filled, nodes_le_size}
 
 module _ (c : ℕ → ℕ) where
   -- A sum over the root's children, and by their two numbers.
   pub plan_sum : (d n : ℕ) (g : Tree d → ℕ)
-      → sum_kids g (plan_tree c (suc d) n) ≡ sum_of (λ x. g (plan_tree c d x)) (children (c d) n)
+      → sum_kids g (plan_tree c (suc d) n) ≡ sum_by (λ x. g (plan_tree c d x)) (children (c d) n)
   unfolding plan_tree
   plan_sum d n g = sum_kids_of (plan_tree c d) g (children (c d) n) (children_some (c d) n)
 
@@ -51,14 +52,14 @@ module _ (c : ℕ → ℕ) where
   unfolding size plan_tree
   plan_size zero n h = refl
   plan_size (suc d) n h =
-      let kids = all_of_map _ (λ x. size d (plan_tree c d x) ≡ x) (plan_size d) (children (c d) n) (thin_children c d n h) in
-      omega (arith, plan_sum d n (size d), plan_between d n, sum_of_cong (λ x. size d (plan_tree c d x)) (λ x. x) (children (c d) n) kids, sum_children (c d) n, taken_le (c d) n (thin_pos c (suc d) n h))
+      let kids : All (λ x. size d (plan_tree c d x) ≡ x) (children (c d) n) = λ i e b. plan_size d _ (thin_children c d n h i e b) in
+      omega (arith, plan_sum d n (size d), plan_between d n, sum_by_cong (λ x. size d (plan_tree c d x)) (λ x. x) (children (c d) n) kids, sum_children (c d) n, taken_le (c d) n (thin_pos c (suc d) n h))
 
   pub plan_filled : (d n : ℕ) → thin c d n ≡ false → Filled d (plan_tree c d n)
   unfolding count plan_tree
   plan_filled zero n h = thin_pos c zero n h
   plan_filled (suc d) n h =
-      (omega (arith, plan_between d n, taken_pos (c d) n), all_kids_of (plan_tree c d) (Filled d) (children (c d) n) (children_some (c d) n) (all_of_map _ _ (plan_filled d) (children (c d) n) (thin_children c d n h)))
+      (omega (arith, plan_between d n, taken_pos (c d) n), all_kids_of (plan_tree c d) (Filled d) (children (c d) n) (children_some (c d) n) (λ i e b. plan_filled d _ (thin_children c d n h i e b)))
 
   pub plan_nodes_le : (d n : ℕ) → thin c d n ≡ false → nodes d (plan_tree c d n) ≤ n
   plan_nodes_le d n h = omega (arith, nodes_le_size d (plan_tree c d n) (plan_filled d n h), plan_size d n h)
@@ -73,7 +74,7 @@ module _ (c : ℕ → ℕ) where
       omega (arith, plan_size (suc d) n h),
     ),
     all_kids_of (plan_tree c d) (Within m c d) (children (c d) n) (children_some (c d) n)
-        (all_of_both _ _ _ (λ x a b. plan_within m d x (levels_below c m d l) a b) (children (c d) n) (thin_children c d n h) (children_le (c d) n)),
+        (λ i e b. plan_within m d _ (levels_below c m d l) (thin_children c d n h i e b) (children_le (c d) n i e b)),
   )
 
 -- Only the capacities of the levels below the root count.

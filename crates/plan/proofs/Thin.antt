@@ -1,6 +1,6 @@
 -- Refusal 11: a plan that is not refused has no subtree too thin, and whether one is too thin is decided at the root.
 use mathlib.Core.Path.{◌≡◌, refl}
-use mathlib.Core.Bool.{Bool, true, false, ◌||◌, true≢false}
+use mathlib.Core.Bool.{Bool, true, false}
 use mathlib.Core.List.{List, [], ◌∷◌}
 use mathlib.Core.Logic.{⊎_elim}
 use Prim.Native.Nat.{ℕ, zero, suc, ◌+◌, ◌-◌, ◌*◌, ◌^◌, ◌≤◌, ◌<◌}
@@ -9,10 +9,11 @@ use native.Mathlib.Omega.{arith}
 use native.Mathlib.Numerals.{add-one}
 use lib.Dec.{ltb, lit<, lit≤}
 use borrow.Author.Tests.{ltb-false, lt-ltb, le-ltb}
-use Rattle.numbers.proofs.Numbers.{lt_or_le}
+use Rattle.std.specs.List.{All}
+use Rattle.std.proofs.lemmas.Bool.{cases_lt, or_parts}
+use Rattle.std.proofs.lemmas.List.Elements.{All-nil, All-cons}
 use Rattle.plan.specs.Planned.{taken, children, any_of, thin}
 use Rattle.plan.proofs.Distributing.{taken_most, taken_many, taken_pos, children_le, children_ge}
-use Rattle.plan.proofs.Lists.{AllOf, all_of_both}
 
 -- What is known of the capacities of the levels up to d: c of a subtree, m of a node.
 pub record Levels (c m : ℕ → ℕ) (d : ℕ) : Type 0 where
@@ -30,10 +31,6 @@ levels_below c m d l =
       room = λ u h. l.room u (omega arith);
     }
 
-neither : (a b : Bool) → (a || b) ≡ false → (a ≡ false) × (b ≡ false)
-neither true b e = absurd (true≢false e)
-neither false b e = (refl, e)
-
 double : (d : ℕ) → 2 ^ (d + 1) ≡ 2 * 2 ^ d
 double d = rw (add-one, pow-succ')
 
@@ -41,15 +38,15 @@ next : (d : ℕ) → 2 ^ (d + 2) ≡ 2 * 2 ^ (d + 1)
 next d = let s : d + 2 ≡ d + 1 + 1 = omega arith in rw (s, double (d + 1))
 
 -- None of a list, one by one.
-pub any_none : (f : ℕ → Bool) (l : List ℕ) → AllOf (λ x. f x ≡ false) l → any_of f l ≡ false
+pub any_none : (f : ℕ → Bool) (l : List ℕ) → All (λ x. f x ≡ false) l → any_of f l ≡ false
 unfolding any_of
 any_none f [] a = refl
-any_none f (x ∷ xs) a = rw (a.0, any_none f xs a.1)
+any_none f (x ∷ xs) a = rw (a 0 0 (omega arith), any_none f xs (λ i e b. a (suc i) e (omega arith)))
 
-pub none_any : (f : ℕ → Bool) (l : List ℕ) → any_of f l ≡ false → AllOf (λ x. f x ≡ false) l
+pub none_any : (f : ℕ → Bool) (l : List ℕ) → any_of f l ≡ false → All (λ x. f x ≡ false) l
 unfolding any_of
-none_any f [] e = tt
-none_any f (x ∷ xs) e = let b = neither (f x) (any_of f xs) e in (b.0, none_any f xs b.1)
+none_any f [] e = All-nil (λ x. f x ≡ false)
+none_any f (x ∷ xs) e = let b = or_parts (f x) (any_of f xs) e in All-cons (λ y. f y ≡ false) x xs b.0 (none_any f xs b.1)
 
 -- A subtree that is not too thin has the records for its depth, so one at least, and its children are not too thin.
 module _ (c : ℕ → ℕ) where
@@ -58,14 +55,14 @@ module _ (c : ℕ → ℕ) where
   thin_least zero n e = ltb-false n 1 e
   thin_least (suc d) n e =
       let s : suc d + 1 ≡ d + 2 = omega arith in
-      rw s (ltb-false n (2 ^ (d + 2) - 1) (neither _ (any_of (thin c d) (children (c d) n)) e).0)
+      rw s (ltb-false n (2 ^ (d + 2) - 1) (or_parts _ (any_of (thin c d) (children (c d) n)) e).0)
 
   pub thin_pos : (d n : ℕ) → thin c d n ≡ false → 1 ≤ n
   thin_pos d n e = omega (arith, thin_least d n e, one-le-pow d 2 (lit< tt), double d)
 
-  pub thin_children : (d n : ℕ) → thin c (suc d) n ≡ false → AllOf (λ x. thin c d x ≡ false) (children (c d) n)
+  pub thin_children : (d n : ℕ) → thin c (suc d) n ≡ false → All (λ x. thin c d x ≡ false) (children (c d) n)
   unfolding thin
-  thin_children d n e = none_any (thin c d) (children (c d) n) (neither (ltb n (2 ^ (d + 2) - 1)) _ e).1
+  thin_children d n e = none_any (thin c d) (children (c d) n) (or_parts (ltb n (2 ^ (d + 2) - 1)) _ e).1
 
 -- Three halves of 2^e fit 3^e.
 gap : (e : ℕ) → 3 * 2 ^ e ≤ 2 * 3 ^ e + 1
@@ -90,7 +87,7 @@ module _ (c m : ℕ → ℕ) where
       let kept : taken (c d) n ≤ m (suc d) = taken_most (c d) (m (suc d)) n (l.some d (omega arith)) (omega (arith, l.most d (omega arith))) in
       many_kept (2 ^ (d + 1) - 1) (c d) (taken (c d) n) n many (omega (arith, gap (d + 1), l.room d (omega arith) (omega arith)))
       (taken_many (c d) n many))
-      (lt_or_le (taken (c d) n) 2)
+      (cases_lt (taken (c d) n) 2)
 
   pub thin_not : (d n : ℕ) → Levels c m d → n ≤ c d → 2 ^ (d + 1) - 1 ≤ n → thin c d n ≡ false
   unfolding thin
@@ -100,9 +97,8 @@ module _ (c m : ℕ → ℕ) where
       let g : 2 ^ (d + 2) - 1 ≤ n = rw s at e in
       rw (le-ltb n (2 ^ (d + 2) - 1) g)
       (any_none (thin c d) (children (c d) n)
-      (all_of_both (λ x. x ≤ c d) (λ x. 2 ^ (d + 1) - 1 ≤ x) (λ x. thin c d x ≡ false)
-      (λ x a b. thin_not d x (levels_below c m d l) a b)
-      (children (c d) n) (children_le (c d) n) (children_ge (2 ^ (d + 1) - 1) (c d) n (distributed_enough d n l h g))))
+      (λ i e b.
+      thin_not d _ (levels_below c m d l) (children_le (c d) n i e b) (children_ge (2 ^ (d + 1) - 1) (c d) n (distributed_enough d n l h g) i e b)))
 
   thin_yes : (d n : ℕ) → n < 2 ^ (d + 1) - 1 → thin c d n ≡ true
   unfolding thin
@@ -116,4 +112,4 @@ module _ (c m : ℕ → ℕ) where
       ⊎_elim
       (λ (less : n < 2 ^ (d + 1) - 1). rw (thin_yes d n less, lt-ltb n (2 ^ (d + 1) - 1) less))
       (λ (enough : 2 ^ (d + 1) - 1 ≤ n). rw (thin_not d n l h enough, le-ltb n (2 ^ (d + 1) - 1) enough))
-      (lt_or_le n (2 ^ (d + 1) - 1))
+      (cases_lt n (2 ^ (d + 1) - 1))

@@ -1,6 +1,6 @@
 -- The shape of the tree that is written for n records, and the planner's answer: document 01, "Planner" and "Causes and numbers".
 use Rattle.std.specs.Prelude.{◌≡◌, ℕ, zero, suc, ◌+◌, ◌-◌, ◌*◌, ◌/◌, ◌%◌, ◌^◌, max, Bool, false, not, ◌||◌, ◌&&◌, List, [], ◌∷◌, ◌++◌, leb, ltb, eqb, replicate, Result, IfOk}
-use Rattle.numbers.specs.Numbers.{pick, field_size}
+use Rattle.numbers.specs.Numbers.{least_from, field_size}
 use Rattle.refusal.specs.Answer.{Answer, accepted, refused, answer_of, or_else}
 use Rattle.refusal.specs.declared.Refusal.{Refusal}
 use Rattle.node_info.specs.Capacity.{subtree_capacity, node_capacity}
@@ -27,14 +27,12 @@ distributed m p = replicate (m % p) (m / p + 1) ++ replicate (p - m % p) (m / p)
 unfoldable pub children : ℕ → ℕ → List ℕ
 children c n = distributed (n - taken c n) (taken c n + 1)
 
--- The same as the code has it.
+-- The same as the code has it: of a node that keeps k records and distributes m; and of n records where each child's subtree holds c at most.
+abbrev pub keeping : ℕ → ℕ → Distribution
+keeping k m = record { kept = k; base = m / (k + 1); extra = m % (k + 1) }
+
 abbrev pub distribution : ℕ → ℕ → Distribution
-distribution c n =
-    record {
-      kept = taken c n;
-      base = (n - taken c n) / (taken c n + 1);
-      extra = (n - taken c n) % (taken c n + 1);
-    }
+distribution c n = keeping (taken c n) (n - taken c n)
 
 -- The children of these numbers, each made by f; a node has one at least.
 unfoldable pub kids_of : {A : Type 0} → (ℕ → A) → List ℕ → Kids A
@@ -56,19 +54,14 @@ unfoldable pub thin : (ℕ → ℕ) → ℕ → ℕ → Bool
 thin c zero n = ltb n 1
 thin c (suc d) n = ltb n (2 ^ (d + 2) - 1) || any_of (thin c d) (children (c d) n)
 
--- The least of the levels u, u + 1, .. , u + k of which f holds, u + k if it holds of none before that.
-unfoldable pub least_level : (ℕ → Bool) → ℕ → ℕ → ℕ
-least_level f zero u = u
-least_level f (suc k) u = let later = least_level f k (u + 1) in pick (f u) u later
-
 module _ (n : ℕ) (g : Geometry) where
   -- The depth of the planned tree: the least d with C(d) at least n. It is sought up to level 32; a plan that is accepted has 23 at most.
   unfoldable pub plan_depth : ℕ
-  plan_depth = least_level (λ u. leb n (subtree_capacity g u)) 32 0
+  plan_depth = least_from (λ u. leb n (subtree_capacity g u)) 32 0
 
   -- The first of the levels needed for it, 0 to the depth, whose nodes hold none (M = 0); one above the depth where each holds records.
   unfoldable pub empty_level : ℕ
-  empty_level = least_level (λ u. eqb (node_capacity g u) 0) (plan_depth + 1) 0
+  empty_level = least_from (λ u. eqb (node_capacity g u) 0) (plan_depth + 1) 0
 
   -- The planned tree.
   unfoldable pub planned : Tree plan_depth

@@ -3,19 +3,15 @@ use Rattle.std.specs.Prelude.{Result, Ok, Err, ⊤}
 use mathlib.Core.Path.{◌≡◌, refl, sym, ◌∙◌}
 use mathlib.Core.Bool.{Bool, true, false}
 use mathlib.Core.List.{List, [], ◌∷◌}
-use Prim.Native.Nat.{ℕ, ◌-◌, ◌^◌, ◌≤◌, ◌<◌}
-use native.Mathlib.Nat.{pow-le-pow_right}
+use Prim.Native.Nat.{ℕ, ◌-◌, ◌≤◌, ◌<◌}
 use native.Mathlib.Omega.{arith}
-use lib.Dec.{leb, eqb, lit<}
-use lib.ListN.{length, get_or, take, drop, length-take, length-drop}
+use lib.Dec.{leb, eqb}
+use lib.ListN.{length, take, drop, length-take, length-drop}
 use Rattle.std.specs.Cmp.Lexicographic.{pointwise, unequal, nat_list_eq_equiv}
-use mir.Syntax.{w32}
-use mir.Val.{Fits}
 use borrow.Author.Tests.{leb-true}
 use Rattle.checksum.specs.Lookup3.{lookup3}
 use Rattle.numbers.specs.Numbers.{part, num, saturated}
 use Rattle.numbers.proofs.Lists.{part_rest}
-use Rattle.numbers.proofs.Numbers.{num_lt}
 use Rattle.refusal.specs.declared.Refusal.{Refusal}
 use Rattle.refusal.specs.Answer.{Answer, accepted, refused, refusal_of, or_else, verdict_of}
 use Rattle.refusal.proofs.Answers.{refused_is}
@@ -75,9 +71,3 @@ module _ (l signature : List ℕ) (p : ℕ) (four : length signature ≡ 4) wher
   pub signature_starts : (rest : List ℕ) → rest ≡ take (length l - p) (drop p l) → (starts : Bool)
       → starts ≡ pointwise eqb signature (take (length signature) rest) → starts ≡ same (part l p 4) signature
   signature_starts rest e starts is = is ∙ rw (e, part_rest l p (length l - p) (omega arith), four) (nat_list_eq_equiv.symm signature (part l p 4) ∙ same_is (part l p 4) signature)
-
--- `check_checksum`: a number in four bytes or fewer.
-pub word_fits : (l : List ℕ) (end width x : ℕ) → x ≡ num l end width → width ≤ 4 → ((i : ℕ) → get_or l i 0 < 256) → Fits w32 x
-word_fits l end width x stored few known =
-    let bound : 256 ^ width ≤ 256 ^ 4 = pow-le-pow_right (lit< tt) few in
-    omega (arith, num_lt l end width known)

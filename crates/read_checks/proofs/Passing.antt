@@ -1,30 +1,20 @@
 -- Where the readers' tests pass, and what a test that is passed tells.
 use mathlib.Core.Path.{◌≡◌, refl}
-use mathlib.Core.Bool.{Bool, true, false}
+use mathlib.Core.Bool.{true}
 use mathlib.Core.List.{List, [], ◌∷◌}
 use Prim.Native.Nat.{ℕ, ◌+◌, ◌≤◌}
-use lib.Dec.{leb}
 use lib.ListN.{length}
 use borrow.Author.Tests.{leb-true, le-leb, eq-eqb}
-use Rattle.numbers.specs.Numbers.{saturated, part}
-use Rattle.refusal.specs.Answer.{Answer, accepted, refused, or_else, on_accepted}
+use Rattle.numbers.specs.Numbers.{part}
+use Rattle.refusal.specs.Answer.{Answer, accepted}
+use Rattle.refusal.proofs.Answers.{test_passed}
 use Rattle.read_checks.specs.Tests.{needs, same, front_test}
 
 -- What a test that is passed tells.
-pub passed : (t : Bool) (number : ℕ) (values figures : List ℕ) (rest : Answer) → or_else t (refused number values) rest ≡ accepted figures
-    → (t ≡ true) × (rest ≡ accepted figures)
-passed true number values figures rest e = (refl, e)
-passed false number values figures rest e = (cc, cc)
-
 pub there : (end length : ℕ) (figures : List ℕ) (rest : Answer) → needs end length rest ≡ accepted figures
     → (end ≤ length) × (rest ≡ accepted figures)
 there end length figures rest e =
-    let h = passed (leb end length) 1 (saturated end ∷ length ∷ []) figures rest e in (leb-true end length h.0, h.1)
-
-pub passed_both : (first next : Answer) (figures : List ℕ) → on_accepted first next ≡ accepted figures
-    → (f : List ℕ) × (first ≡ accepted f) × (next ≡ accepted figures)
-passed_both (accepted f) next figures e = (f, refl, e)
-passed_both (refused number values) next figures e = ([], cc, cc)
+    let h = test_passed 1 _ e in (leb-true end length h.0, h.1)
 
 pub same_refl : (xs : List ℕ) → same xs xs ≡ true
 unfolding same

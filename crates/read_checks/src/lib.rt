@@ -13,9 +13,34 @@ ghost use Rattle.read_checks.specs.Tests.{needs, same, front_test, checksum_test
 use node_info::NodeInfo;
 use refusal::Refusal;
 
+// A node as the pointer to it has it: where it begins, and how many records it has.
+#[derive(Clone, Copy)]
+pub struct Node {
+    pub address: u64,
+    pub records: u16,
+}
+
+impl Node {
+    // The place in it where its records end.
+    pub fn records_end(self, record_size: u16) -> u64
+        ensures end { result ≡ records_end record_size self.records }
+        ensures small { result < 2 ^ 33 }
+    {
+        format::PREFIX_SIZE + record_size as u64 * self.records as u64
+    }
+
+    // The bytes of its records, or as many as there are.
+    pub fn records_in(self, file: &[u8], record_size: u16) -> &[u8]
+        ensures { result.now ≡ part file.now (self.address + prefix_size) (self.records * record_size) }
+    {
+        let first = self.address.saturating_add(format::PREFIX_SIZE);
+        numbers::part(file, first, record_size as u64 * self.records as u64)
+    }
+}
+
 // The part of the file from `base` on; refusal 18 where the base is beyond the file's length.
 #[tactic(auto, unfolding(crate::specs::Base::on_part))]
-pub fn part_from<'a>(file: &'a [u8], base: u64) -> Result<&'a [u8], Refusal>
+pub fn part_from(file: &[u8], base: u64) -> Result<&[u8], Refusal>
     ensures verdict { answer_of (λ part. []) result ≡ base_test file.now base }
     ensures cases { MatchResult result (λ part. (base ≤ length file.now) × (part.now ≡ drop base file.now))
         (λ cause. (length file.now < base) × (cause ≡ BaseBeyondFile)) }
@@ -61,7 +86,7 @@ pub fn check_front(file: &[u8], address: u64, signature: &[u8; 4]) -> Result<(),
 
 // Refusal 6 where the number in the four bytes at `end` is not the checksum of the bytes from `from` to there; each is of as many bytes
 // as there are.
-#[tactic(auto, using(crate::proofs::Checks::word_fits), unfolding(crate::specs::Tests::checksum_test))]
+#[tactic(auto, using(numbers::proofs::Numbers::num_fits_w32), unfolding(crate::specs::Tests::checksum_test))]
 pub fn check_checksum(data: &[u8], from: usize, end: usize) -> Result<(), Refusal>
     ensures { verdict_of result ≡ checksum_test «data».now from end (accepted []) }
 {
@@ -96,20 +121,4 @@ pub fn check_root(record_size: u16, depth: u16) -> Result<(), Refusal>
         return Err(Refusal::DepthAboveLimit(depth));
     }
     Ok(())
-}
-
-// The place in a node where its records end.
-pub fn records_end(record_size: u16, records: u16) -> u64
-    ensures end { result ≡ records_end record_size records }
-    ensures small { result < 2 ^ 33 }
-{
-    format::PREFIX_SIZE + record_size as u64 * records as u64
-}
-
-// The bytes of a node's records, or as many as there are.
-pub fn records_of<'a>(file: &'a [u8], address: u64, record_size: u16, records: u16) -> &'a [u8]
-    ensures { result.now ≡ part file.now (address + prefix_size) (records * record_size) }
-{
-    let first = address.saturating_add(format::PREFIX_SIZE);
-    numbers::part(file, first, record_size as u64 * records as u64)
 }

@@ -1,18 +1,30 @@
 -- Laws of an answer as numbers. (`cc` knows that `accepted` and `refused` differ and give back what they hold.)
 use mathlib.Core.Path.{◌≡◌, refl, sym}
+use mathlib.Core.Bool.{Bool, true, false}
 use Prim.Native.Nat.{◌-◌, ℕ, suc, ◌+◌, ◌≤◌, ◌<◌}
 use lib.Dec.{lit<, lit≤}
-use Rattle.refusal.specs.Answer.{Answer, accepted, refused, refusal_of, cells}
+use Rattle.refusal.specs.Answer.{Answer, accepted, refused, or_else, on_accepted, refusal_of, cells}
 use mathlib.Core.List.{List, [], ◌∷◌, ◌++◌, append_assoc}
 use native.Mathlib.Nat.{add_comm}
 use native.Mathlib.Numerals.{add-one}
 use native.Mathlib.Omega.{arith}
-use lib.ListN.{length, get_or, take, replicate, length-take, length-append, length-replicate, replicate-append-replicate}
-use lib.Seq.{take-append-add, take-append-le, take-take, take_at, take-suc, take_all}
+use lib.ListN.{length, take, replicate, length-take, length-append, length-replicate, replicate-append-replicate}
+use lib.Seq.{take-append-add, take-append-le, take-take, take_at}
 use Rattle.refusal.specs.declared.Refusal.{Refusal}
 use Rattle.refusal.specs.declared.Refusal.TheVariants.{UnexpectedEof, InvalidBTreeV2Signature, InvalidBTreeV2Version, InvalidOffsetSize, InvalidLengthSize, ChecksumMismatch, InvalidNodeSize, ZeroRecordSize, TooManyRecords}
 use Rattle.refusal.specs.declared.Refusal.TheVariants.{LevelHoldsNone, SubtreeTooThin, RecordBufferLength, CountAboveLengthSize, AddressAboveOffsetSize, OutputTooShort, DepthAboveLimit}
 use Rattle.refusal.specs.declared.Refusal.TheVariants.{InvalidKeyField, BaseBeyondFile, UnknownRecordType, RecordTypeMismatch}
+
+-- Where an answer accepts, a test before it held, and so did an answer before it accept.
+pub test_passed : {t : Bool} (number : ℕ) (values : List ℕ) {figures : List ℕ} {rest : Answer}
+    → or_else t (refused number values) rest ≡ accepted figures → (t ≡ true) × (rest ≡ accepted figures)
+test_passed {t = true} number values e = (refl, e)
+test_passed {t = false} number values e = (cc, cc)
+
+pub both_accepted : {first next : Answer} {figures : List ℕ} → on_accepted first next ≡ accepted figures
+    → (f : List ℕ) × (first ≡ accepted f) × (next ≡ accepted figures)
+both_accepted {first = accepted f} e = (f, refl, e)
+both_accepted {first = refused number values} e = ([], cc, cc)
 
 -- k numbers are k.
 pub length_cells : (k : ℕ) (a : Answer) → length (cells k a) ≡ k
@@ -46,12 +58,6 @@ pub cells_front : (k : ℕ) (a : Answer) → take k (cells (suc k) a) ≡ cells 
 unfolding cells
 cells_front k (accepted figures) = let few : k ≤ suc k = omega arith in rw (take-take k (suc k) _ few) (one_more k (0 ∷ figures))
 cells_front k (refused number values) = let few : k ≤ suc k = omega arith in rw (take-take k (suc k) _ few) (one_more k (number ∷ values))
-
--- One number more is the numbers and that one behind them.
-pub cells_snoc : (k : ℕ) (a : Answer) → cells k a ++ (get_or (cells (suc k) a) k 0 ∷ []) ≡ cells (suc k) a
-cells_snoc k a =
-    let long : length (cells (suc k) a) ≡ suc k = length_cells (suc k) a in
-    rw (← cells_front k a, ← take-suc (cells (suc k) a) k 0 (omega arith), take_all (suc k) (cells (suc k) a) (omega arith))
 
 pub cells_refused : (k number : ℕ) (values : List ℕ) (n : ℕ) → k ≡ suc (length values) + n
     → cells k (refused number values) ≡ (number ∷ values) ++ replicate n 0
@@ -89,16 +95,6 @@ refused_is RecordTypeMismatch = (_, _, refl, lit≤ tt, lit< tt)
 
 pub cells_more : (r : Refusal) (m : ℕ) → cells (m + 3) (refusal_of r) ≡ cells 3 (refusal_of r) ++ replicate m 0
 cells_more r m = let s = refused_is r in rw s.2 (more m s.0 s.1 s.3)
-
-pub code_more : (r : Refusal) (m : ℕ) {t : List ℕ} → t ≡ cells 3 (refusal_of r) → t ++ replicate m 0 ≡ cells (m + 3) (refusal_of r)
-code_more r m e = rw (cells_more, ← e)
-
--- What was put has the answer's length, and is the answer y too where that is x.
-pub put_length : (x : Answer) {z : List ℕ} {k : ℕ} → z ≡ cells k x → length z ≡ k
-put_length x e = rw (e, length_cells)
-
-pub put_is : {x y : Answer} {z : List ℕ} {n k : ℕ} → x ≡ y → n ≡ k → z ≡ cells n x → z ≡ cells k y
-put_is e l h = rw (← e, ← l) h
 
 -- A cause of no value, of one and of two, and an accepted test, as three numbers.
 pub told_alone : (number : ℕ) → number ∷ 0 ∷ 0 ∷ [] ≡ cells 3 (refused number [])

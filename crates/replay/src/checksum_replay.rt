@@ -18,7 +18,6 @@ pub(crate) fn published() -> Tally
 }
 
 // Whether the input of length n has the given checksum.
-#[tactic(auto, using(crate::proofs::Filling::input_front, crate::proofs::Filling::length_input))]
 fn agrees(n: usize, answer: u32) -> bool
     requires { n ≤ 60 }
     ensures { result ≡ eqb (lookup3 (bytes_of n n)) answer }
@@ -27,13 +26,17 @@ fn agrees(n: usize, answer: u32) -> bool
     checksum::jenkins_lookup3(&bytes[..n]) == answer
 }
 
-// The stored answers, to the inputs of each length from 0 on. A loop of its own: an answer's place is its input, which `Tally::of` does not tell.
+// The stored answers, to the inputs of each length from 0 on. Counted here, since an answer's place is its input, which `Tally::of` does not tell.
 pub(crate) fn stored() -> Tally
     ensures { result.agreed + result.differed ≡ 61 }
 {
-    let mut tally = Tally::default();
-    for (n, answer) in ANSWERS.iter().enumerate() {
-        tally = tally.with(agrees(n, *answer));
+    let agreed = ANSWERS
+        .iter()
+        .enumerate()
+        .filter(|(n, answer)| agrees(*n, **answer))
+        .count() as u64;
+    Tally {
+        agreed,
+        differed: ANSWERS.len() as u64 - agreed,
     }
-    tally
 }

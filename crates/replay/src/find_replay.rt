@@ -7,11 +7,9 @@ use crate::rows;
 use crate::tally::Tally;
 use field::Field;
 
-// Whether finding the key of a row has its six numbers; the row says where in the stored bytes its file begins.
-fn agrees(row: &[u64; 20], bytes: &[u8]) -> bool {
-    let mut from = bytes;
-    rows::next_part(&mut from, 1102, row[0]);
-    let file = rows::next_part(&mut from, 1102, row[1]);
+// Whether finding the key of a row has its six numbers; the row says where in the stored bytes its file begins, and its length.
+fn agrees(row: &[u64; 20]) -> bool {
+    let file = numbers::part(&FIND_BYTES, row[0], row[1]);
     let key = Field {
         start: row[11],
         width: row[12],
@@ -24,6 +22,5 @@ fn agrees(row: &[u64; 20], bytes: &[u8]) -> bool {
 pub(crate) fn stored() -> Tally
     ensures { result.agreed + result.differed ≡ 91 }
 {
-    let bytes = &FIND_BYTES[..];
-    Tally::of(FIND_ROWS.as_chunks::<20>().0, |row| agrees(row, bytes))
+    Tally::of(FIND_ROWS.as_chunks().0, &[], |row, _| agrees(row))
 }

@@ -18,9 +18,5 @@ fn agrees(row: &[u64; 14], bytes: &mut &[u8]) -> bool {
 pub(crate) fn stored() -> Tally
     ensures { result.agreed + result.differed ≡ 62 }
 {
-    let mut bytes = &HEADER_BYTES[..];
-    Tally::of(
-        HEADER_ROWS.as_chunks::<14>().0,
-        |row| agrees(row, &mut bytes),
-    )
+    Tally::of(HEADER_ROWS.as_chunks().0, &HEADER_BYTES, agrees)
 }

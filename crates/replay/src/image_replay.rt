@@ -36,10 +36,8 @@ fn agrees(row: &[u64; 14], bytes: &mut &[u8]) -> bool {
     let image_due = rows::next_part(bytes, 1024, row[8]);
     let length = ((row[1] % 65536) * (row[2] % 65536)).min(512) as usize;
     let records = &rows::input::<512>(row[1])[..length];
-    let mut header_array = [MARK; 64];
-    let mut image_array = [MARK; 1024];
-    let header = &mut header_array[..header_due.len()];
-    let image = &mut image_array[..image_due.len()];
+    let header = &mut [MARK; 64][..header_due.len()];
+    let image = &mut [MARK; 1024][..image_due.len()];
     let found = write(request(row), records, header, image);
     found[..] == row[9..] && &*header == header_due && &*image == image_due
 }
@@ -48,11 +46,7 @@ fn agrees(row: &[u64; 14], bytes: &mut &[u8]) -> bool {
 pub(crate) fn stored() -> Tally
     ensures { result.agreed + result.differed ≡ 20 }
 {
-    let mut bytes = &IMAGE_BYTES[..];
-    Tally::of(
-        IMAGE_ROWS.as_chunks::<14>().0,
-        |row| agrees(row, &mut bytes),
-    )
+    Tally::of(IMAGE_ROWS.as_chunks().0, &IMAGE_BYTES, agrees)
 }
 
 // The answer to four records of 8 bytes in nodes of 40 bytes, with the first at `start`; addresses have two bytes.

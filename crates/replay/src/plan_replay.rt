@@ -17,5 +17,5 @@ fn agrees(row: &[u64; 9]) -> bool {
 pub(crate) fn stored() -> Tally
     ensures { result.agreed + result.differed ≡ 308 }
 {
-    Tally::of(PLANS.as_chunks::<9>().0, agrees)
+    Tally::of(PLANS.as_chunks().0, &[], |row, _| agrees(row))
 }

@@ -17,9 +17,5 @@ fn agrees(row: &[u64; 7], bytes: &mut &[u8]) -> bool {
 pub(crate) fn stored() -> Tally
     ensures { result.agreed + result.differed ≡ 39 }
 {
-    let mut bytes = &RECORD_READ_BYTES[..];
-    Tally::of(
-        RECORD_READ_ROWS.as_chunks::<7>().0,
-        |row| agrees(row, &mut bytes),
-    )
+    Tally::of(RECORD_READ_ROWS.as_chunks().0, &RECORD_READ_BYTES, agrees)
 }

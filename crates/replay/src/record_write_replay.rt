@@ -17,8 +17,7 @@ fn agrees(row: &[u64; 9], bytes: &mut &[u8]) -> bool {
         message_flags: row[3],
         creation_order: row[4],
     };
-    let mut array = [MARK; 32];
-    let output = &mut array[..due.len()];
+    let output = &mut [MARK; 32][..due.len()];
     let written = btree_v2_record::write_record(rows::byte(row[0]), values, output);
     answers::numbers_of(written)[..] == row[6..] && &*output == due
 }
@@ -27,9 +26,5 @@ fn agrees(row: &[u64; 9], bytes: &mut &[u8]) -> bool {
 pub(crate) fn stored() -> Tally
     ensures { result.agreed + result.differed ≡ 40 }
 {
-    let mut bytes = &RECORD_WRITE_BYTES[..];
-    Tally::of(
-        RECORD_WRITE_ROWS.as_chunks::<9>().0,
-        |row| agrees(row, &mut bytes),
-    )
+    Tally::of(RECORD_WRITE_ROWS.as_chunks().0, &RECORD_WRITE_BYTES, agrees)
 }

@@ -6,12 +6,13 @@ ghost use Rattle.replay.specs.Inputs.{bytes_of};
 
 use btree_v2_header::BTreeV2Header;
 use node_info::Geometry;
+use std::{array, mem};
 
 // Every byte of a lent output before the call.
 pub(crate) const MARK: u8 = 238;
 
 // A stored number as a byte, and as a number of 16 and of 32 bits; of a number above that, as the C functions cut it.
-// Three functions, each by a remainder: the first of `to_le_bytes` are the same number, and no plainer; nor is a trait with three impls.
+// Three functions, each by a remainder: by the first bytes of `to_le_bytes` they are no plainer, nor is a trait with three impls.
 pub(crate) fn byte(number: u64) -> u8
     ensures { result ≡ number % 256 }
 {
@@ -54,20 +55,15 @@ pub(crate) fn next_part<'a>(bytes: &mut &'a [u8], most: usize, stored: u64) -> &
     ensures front { bytes.old.now ≡ result.now ++ bytes.new.now }
     ensures bound { length result.now ≤ most }
 {
-    let n = stored.min(most as u64).min(bytes.len() as u64) as usize;
-    let (part, rest) = bytes.split_at(n);
-    *bytes = rest;
-    part
+    match bytes.split_off(..stored.min(most as u64) as usize) {
+        Some(part) => part,
+        None => mem::take(bytes),
+    }
 }
 
-// The input that belongs to a number n: byte i is (7 * i + 13 * n + 1) mod 256. A loop over the places: of `array::from_fn` and of
-// `iter_mut().enumerate()` what the array holds was not proved.
+// The input that belongs to a number n: byte i is (7 * i + 13 * n + 1) mod 256.
 pub(crate) fn input<const N: usize>(n: u64) -> [u8; N]
     ensures { result ≡ bytes_of n N }
 {
-    let mut bytes = [0; N];
-    for i in 0..N {
-        bytes[i] = byte(7 * (i as u64 % 256) + 13 * (n % 256) + 1);
-    }
-    bytes
+    array::from_fn(|i| byte(7 * (i as u64 % 256) + 13 * (n % 256) + 1))
 }

@@ -11,7 +11,7 @@ use Rattle.numbers.specs.Places.{stored, over}
 use Rattle.refusal.specs.Answer.{cells}
 use Rattle.node_info.specs.Capacity.{leaf_capacity, count_width, internal_capacity, subtree_capacity, total_width, node_capacity}
 use Rattle.plan.specs.Tree.{sum_kids, between, count, size, below, nodes, leaves}
-use Rattle.plan.specs.Planned.{taken, distributed, children, kids_of, plan_tree, any_of, thin, least_level, plan_depth, empty_level, planned, plan_figures, plan_answer}
+use Rattle.plan.specs.Planned.{taken, distributed, children, kids_of, plan_tree, any_of, thin, plan_depth, empty_level, planned, plan_figures, plan_answer}
 use Rattle.format.specs.Bytes.{summed, padded, pointer_bytes, address, record_range, leaf_bytes, pointer, pointers, own_records, internal_bytes, kids_image, image, header_bytes}
 use Rattle.format.specs.declared.Request.{Request}
 use Rattle.format.specs.Request.{nodes_of, image_of, root_of, root_records_of, header_from}
@@ -331,7 +331,7 @@ disagreeing i (t ∷ ts) = let rest = disagreeing (i + 1) ts in pick (same t.fou
 agree : disagreeing 0 (writes ++ (reads ++ (collects ++ (behind ++ looks)))) ≡ []
 unfolding computed root_test le unle num least_from width field_size stored cells leaf_capacity count_width internal_capacity subtree_capacity
     total_width node_capacity sum_kids between count size below nodes leaves taken distributed children kids_of plan_tree any_of thin
-    least_level plan_depth empty_level planned plan_figures plan_answer summed padded pointer_bytes address record_range leaf_bytes pointer pointers own_records internal_bytes
+    plan_depth empty_level planned plan_figures plan_answer summed padded pointer_bytes address record_range leaf_bytes pointer pointers own_records internal_bytes
     kids_image image header_bytes over nodes_of image_of root_of root_records_of header_from write_answer written header_exit image_exit put_record
     records_put pointer_place child_address child_records leaf_run child_run own_record_run children_run node_run same front_test checksum_test header_at
     parsed leaf_body leaf_test internal_body internal_test collect_tests collected run_cells dump dumps ramp_from ramp lent writing summing refusing reading

@@ -1,16 +1,17 @@
 -- What an accepted write says of its numbers.
-use mathlib.Core.Path.{◌≡◌, refl}
-use mathlib.Core.Bool.{Bool, true, false}
-use mathlib.Core.List.{List, []}
+use mathlib.Core.Path.{◌≡◌}
+use mathlib.Core.Bool.{true}
+use mathlib.Core.List.{List}
 use Prim.Native.Nat.{ℕ, ◌+◌, ◌-◌, ◌*◌, ◌^◌, ◌≤◌, ◌<◌}
 use native.Mathlib.Nat.{one-le-pow}
 use native.Mathlib.Omega.{arith}
-use lib.Dec.{leb, eqb, lit<}
+use lib.Dec.{lit<}
 use lib.ListN.{length}
 use borrow.Author.Tests.{leb-true, eqb-true}
 use Rattle.numbers.specs.Numbers.{field_size}
 use Rattle.numbers.proofs.Numbers.{pow_256}
-use Rattle.refusal.specs.Answer.{Answer, accepted, refused, or_else, on_accepted}
+use Rattle.refusal.specs.Answer.{accepted}
+use Rattle.refusal.proofs.Answers.{test_passed, both_accepted}
 use Rattle.plan.specs.Tree.{nodes}
 use Rattle.plan.specs.Planned.{plan_answer}
 use Rattle.format.specs.Bytes.{address}
@@ -29,17 +30,6 @@ pub record Accepts (q : Request) (recs : List ℕ) : Type 0 where
   pub count : q.record_count ≤ 2 ^ (8 * q.length_size) - 1
   pub end : q.start + nodes_of q * q.geometry.node_size ≤ 2 ^ (8 * q.geometry.offset_size) - 1
 
--- A test that a refusal follows held where the answer accepts.
-test_passed : (b : Bool) (number : ℕ) (values figures : List ℕ) (rest : Answer) → or_else b (refused number values) rest ≡ accepted figures
-    → (b ≡ true) × (rest ≡ accepted figures)
-test_passed true number values figures rest e = (refl, e)
-test_passed false number values figures rest e = (cc, cc)
-
-go_on : (p : Answer) (rest : Answer) (figures : List ℕ) → on_accepted p rest ≡ accepted figures
-    → ((f : List ℕ) × (p ≡ accepted f)) × (rest ≡ accepted figures)
-go_on (accepted f) rest figures e = ((f, refl), e)
-go_on (refused number values) rest figures e = (([], cc), cc)
-
 -- And the two outputs are long enough.
 pub record Roomy (q : Request) (hdr img : List ℕ) : Type 0 where
   pub header : header_size q.geometry.offset_size q.length_size ≤ length hdr
@@ -49,19 +39,19 @@ passes : (q : Request) (recs hdr img figures : List ℕ) → written q recs hdr 
     → Accepts q recs × Roomy q hdr img × (plan_answer q.record_count q.geometry ≡ accepted figures)
 unfolding written write_answer
 passes q recs hdr img figures e =
-    let a = test_passed (field_size q.geometry.offset_size) _ _ _ _ e in
-    let b = test_passed (field_size q.length_size) _ _ _ _ a.1 in
-    let p = go_on (plan_answer q.record_count q.geometry) _ _ b.1 in
-    let r = test_passed (eqb (length recs) (q.record_count * q.geometry.record_size)) _ _ _ _ p.1 in
-    let c = test_passed (leb q.record_count (2 ^ (8 * q.length_size) - 1)) _ _ _ _ r.1 in
-    let x = test_passed (leb (q.start + nodes_of q * q.geometry.node_size) (2 ^ (8 * q.geometry.offset_size) - 1)) _ _ _ _ c.1 in
-    let h = test_passed (leb (header_size q.geometry.offset_size q.length_size) (length hdr)) _ _ _ _ x.1 in
-    let i = test_passed (leb (nodes_of q * q.geometry.node_size) (length img)) _ _ _ _ h.1 in (
+    let a = test_passed 4 _ e in
+    let b = test_passed 5 _ a.1 in
+    let p = both_accepted b.1 in
+    let r = test_passed 12 _ p.2 in
+    let c = test_passed 13 _ r.1 in
+    let x = test_passed 14 _ c.1 in
+    let h = test_passed 15 _ x.1 in
+    let i = test_passed 15 _ h.1 in (
       record {
-        figures = p.0.0;
+        figures = p.0;
         offset = a.0;
         lengths = b.0;
-        plan = p.0.1;
+        plan = p.1;
         records = eqb-true _ _ r.0;
         count = leb-true _ _ c.0;
         end = leb-true _ _ x.0;

@@ -44,7 +44,8 @@ fn test_lengths(request: Request, image_size: u64, lengths: Lengths) -> Result<(
     }
     let start = request.start;
     let most = largest(request.geometry.offset_size);
-    if most < image_size || most - image_size < start {
+    let end = start.checked_add(image_size);
+    if end.is_none_or(|end| most < end) {
         return Err(Refusal::AddressAboveOffsetSize(start));
     }
     if lengths.header < request.header_size() {
@@ -57,18 +58,12 @@ fn test_lengths(request: Request, image_size: u64, lengths: Lengths) -> Result<(
 }
 
 // Every refusal of the call, decided from its numbers and the lengths of the lent buffers; accepted, the plan and its table.
-#[tactic(auto, using(crate::proofs::Checking::power_fits), unfolding(crate::specs::Writing::write_answer))]
+#[tactic(auto, using(crate::proofs::Checking::power_fits, crate::proofs::Checking::records_few, crate::proofs::Checking::checked_passed, crate::proofs::Checking::checked_lengths), unfolding(crate::specs::Writing::write_answer))]
 pub fn check(request: Request, lengths: Lengths) -> Result<PlanAndTable, Refusal>
     ensures { Checked request lengths result }
 {
-    let offset_size = request.geometry.offset_size;
-    let length_size = request.length_size;
-    if !numbers::is_field_size(offset_size) {
-        return Err(Refusal::InvalidOffsetSize(offset_size));
-    }
-    if !numbers::is_field_size(length_size) {
-        return Err(Refusal::InvalidLengthSize(length_size));
-    }
+    node_info::check_offset_size(request.geometry.offset_size)?;
+    node_info::check_length_size(request.length_size)?;
     let laid = plan::lay_out(request.record_count, request.geometry)?;
     test_lengths(request, laid.plan.image_size, lengths)?;
     Ok(laid)

@@ -3,4 +3,4 @@ use Rattle.btree_v2_find.proofs.Descending.{Going}
 use Rattle.btree_v2_find.proofs.Search.descend.Given as goal
 
 abbrev pub invariant-loop-level : goal.invariant-loop-level
-invariant-loop-level l = Going l.self.file.now l.geometry l.self.key l.self.sought l.depth l.initial.node l.node l.kept l.level l.nodes
+invariant-loop-level l = Going l.self.tree.file.now l.self.tree.geometry l.self.key l.self.sought l.self.tree.depth l.initial.node l.node l.kept l.level l.nodes

@@ -7,7 +7,7 @@ use Rattle.btree_v2_collect.proofs.collect.Walk.+collect_children_collect_node.G
 pub collect_children-returns-in_default-read-2 : goal.collect_children-returns-in_default-read-2
 collect_children-returns-in_default-read-2 t c = search (middle_refused, arith)
 
-pub collect_node-collect_children-read-requires : goal.collect_node-collect_children-read-requires
-collect_node-collect_children-read-requires t c =
+pub collect_node-collect_children-requires : goal.collect_node-collect_children-requires
+collect_node-collect_children-requires t c =
     let tested = tested_at _ _ _ _ _ c.internal-internal.ensures _ c.check.ensures in
     (omega arith, all_left _ _ _ _ _ _ c.internal-internal.ensures (node_there _ _ _ _ _ _ tested c.in_ok-check.was) (omega arith))

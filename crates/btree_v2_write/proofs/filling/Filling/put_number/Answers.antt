@@ -7,6 +7,6 @@ use mathlib.Core.Path.{refl}
 pub returns : goal.returns
 returns c =
     elim c.if-self-gt0.branch [
-      | then-self-gt0 w ↦ number_put _ _ _ _ _ (rw w.self-is at c.pass.ensures) refl refl refl c.requires w.if-self-gt0.true w.put_le.ensures
+      | then-self-gt0 w ↦ number_put _ _ _ _ _ (rw w.self-is at c.pass.ensures) refl refl refl c.requires w.if-self-gt0.true w.write_le.ensures.0
       | else-self-gt0 w ↦ number_none _ _ _ _ _ (rw w.self-is at c.pass.ensures) refl refl refl w.if-self-gt0.false refl
     ]

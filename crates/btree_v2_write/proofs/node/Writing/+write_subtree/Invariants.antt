@@ -8,5 +8,5 @@ decreases-write_subtree l = l.depth
 
 abbrev pub invariant-loop-i : goal.invariant-loop-i
 invariant-loop-i l =
-    KidsLeft l.self.request l.self.info.now l.self.records.now l.initial.image l.depth l.n l.at.nodes l.at.records l.distributed.kept l.distributed.base l.distributed.extra
+    KidsLeft l.self.request l.self.records.now l.initial.image l.depth l.n l.at.nodes l.at.records l.distributed.kept l.distributed.base l.distributed.extra
     l.large l.image l.small l.next.nodes l.next.records l.i
