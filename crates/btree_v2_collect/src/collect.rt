@@ -97,7 +97,7 @@ impl Walk<'_> {
     }
 
     // Reads the node of this level: a leaf, or an internal node with its children and its records between them. Handed on as it came, an answer has
-    // 32 bytes and not one: collecting from nodes of 40 and 64 bytes then took some 5 in 100 longer, more than its aim of 1.1 of a plain collector.
+    // 32 bytes and not one: so in both functions, collecting from nodes of 40 and 64 bytes took some 5 in 100 longer; its aim is 1.1 of a plain collector.
     #[cycle(collect_children_collect_node)]
     #[tactic(auto, using(crate::proofs::Steps::node_stops, crate::proofs::Steps::node_reads, crate::proofs::Nodes::tested_at, crate::proofs::Moves::walks_accepted))]
     fn collect_node(&mut self, level: u16, node: Node) -> Result<(), Refusal>

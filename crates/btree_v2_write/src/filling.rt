@@ -9,7 +9,7 @@ ghost use Rattle.btree_v2_stamp.specs.Stamped.{stamped};
 ghost use Rattle.btree_v2_write.specs.Filled.{start, Filled, Passed};
 
 // Copies a slice over another of the same length. A loop: by `copy_from_slice`, which calls the C library's memmove, a write of 1,000,000 records of
-// 11 bytes took a tenth longer, more than its aim of 1.02 of the time before nodes were filled in one pass.
+// 11 bytes took a tenth longer, more than its aim of 1.03 of the time before nodes were filled in one pass.
 fn copy(to: &mut [u8], from: &[u8])
     requires { length to.old ≡ length from.now }
     ensures { to.new ≡ from.now }
