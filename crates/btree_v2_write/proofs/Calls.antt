@@ -23,7 +23,7 @@ use Rattle.plan.specs.Tree.{Tree, count, nodes, below, Everywhere}
 use Rattle.plan.specs.Planned.{planned, plan_figures, plan_numbers, plan_answer_of, laid_answer_of}
 use Rattle.plan.proofs.Accepted.{planned_none, planned_size}
 use Rattle.plan.proofs.Checks.{Plannable, accepted_plannable}
-use Rattle.plan.proofs.Depths.{depth_small}
+use Rattle.plan.proofs.Depths.{depth_le, depth_small}
 use Rattle.format.specs.Bytes.{address, header_bytes}
 use Rattle.format.specs.declared.Request.{Request}
 use Rattle.format.specs.Request.{depth_of, nodes_of, image_of, root_of, root_records_of, header_from}
@@ -87,9 +87,13 @@ module _ {q : Request} {laid : PlanAndTable} {recs hdr img : List ℕ} (a : Acce
       (λ (some : 0 < q.record_count). fits q recs ok some)
       (eq-zero-or-pos q.record_count)
 
-  -- Its records have bytes, and so have its nodes.
-  pub sizes : (0 < q.geometry.record_size) × (0 < q.geometry.node_size)
-  sizes = (omega (arith, known.0.pass), omega (arith, known.0.pass))
+  -- Its records have bytes.
+  pub sized : 0 < q.geometry.record_size
+  sized = omega (arith, known.0.pass)
+
+  -- It is no deeper than its tree.
+  pub deep : p.depth ≤ depth_of q
+  deep = omega (arith, depth_is)
 
   -- The image can be written.
   pub image_ready : Ready q (length recs) (length img) p.depth q.record_count 0 0
@@ -97,7 +101,7 @@ module _ {q : Request} {laid : PlanAndTable} {recs hdr img : List ℕ} (a : Acce
   image_ready =
       rw depth_is
       (record {
-        low = omega arith;
+        low = depth_le q.record_count q.geometry;
         few = omega (arith, known.0.pass);
         thick = λ deeper. (known.0.thick (some_records deeper));
         fits = rw tree_is all_fit;

@@ -199,16 +199,17 @@ module _ (q : Request) (x₀ : InternalNode) (front : Filling) where
           let s : next + x.nodes ≤ x₀.first.nodes + nodes_of_all (children_of x₀) = omega arith in
           omega (arith, mul-le-mul_right q.geometry.node_size s, fits.short)
 
-      pub pointer_fits : (0 < x₀.large.nodes) × (0 < x₀.small.nodes) → PointerFits q (length to.node.now) to.at x x₀.pointer next
-      pointer_fits some =
+      pub pointer_fits : PointerFits q (length to.node.now) to.at x x₀.pointer next
+      pointer_fits =
           record {
             bytes = pointer_room;
-            some = rw one (pick_some (ltb i x₀.distributed.extra) x₀.large x₀.small some.0 some.1);
+            some = rw one (pick_some (ltb i x₀.distributed.extra) x₀.large x₀.small fits.large fits.small);
+            size = fits.size;
             short = pointer_short;
           }
 
-      pub next_fits : 0 < q.geometry.node_size → Fits w64 (next + x.nodes)
-      next_fits pos = omega (arith, le-mul_of_pos_right (next + x.nodes) pos, pointer_short)
+      pub next_fits : Fits w64 (next + x.nodes)
+      next_fits = omega (arith, le-mul_of_pos_right (next + x.nodes) fits.size, pointer_short)
 
       pub pointers_turn : {to' : Filling} → Filled to (pointer_to q x₀.pointer x next) to' → PointersLeft to' (next + x.nodes) (i + 1)
       unfolding pointers_to
@@ -283,6 +284,9 @@ module _ {q : Request} (recs : List ℕ) {x : InternalNode} (fits : InternalNode
       pointers_fit =
           record {
             bytes = rw (filled_long f (omega (arith, f.place, own_long, fits.bytes))) (omega (arith, f.place, own_long, fits.bytes));
+            large = fits.some.0;
+            small = fits.some.1;
+            size = omega (arith, fits.bytes);
             short = fits.short;
           }
 
@@ -304,7 +308,7 @@ module _ {q : Request} (recs : List ℕ) {x : InternalNode} (fits : InternalNode
       internal_filled g hz =
           node_filled (filled_then zero-le f g) (omega (arith, internal_front, g.place, contents_long, fits.bytes)) h hz
 
-  -- A node has fewer fields than the budget of a whole one.
-  pub internal_few : x.distributed.kept < 2 ^ 24 → length (internal_node_fields q recs x) ≤ 2 ^ 32
-  unfolding internal_node_fields content_fields with_end end_fields front_fields
-  internal_few few = simp (length-append, own_many, pointers_many, length_two) (omega arith)
+-- A node has fewer fields than the budget of a whole one.
+pub internal_few : (q : Request) (recs : List ℕ) (x : InternalNode) → x.distributed.kept < 2 ^ 24 → length (internal_node_fields q recs x) ≤ 2 ^ 32
+unfolding internal_node_fields content_fields with_end end_fields front_fields
+internal_few q recs x few = simp (length-append, own_many, pointers_many, length_two) (omega arith)

@@ -24,7 +24,6 @@ use Rattle.node_info.proofs.Columns.{subtree_entry, pointer_entry}
 use Rattle.plan.specs.Tree.{Tree, sum_kids, between, nodes, below, count, size, AllKids, Everywhere}
 use Rattle.plan.specs.declared.Distribution.{Distribution}
 use Rattle.plan.specs.Planned.{distribution, taken, children, kids_of, plan_tree, thin}
-use Rattle.plan.proofs.Depths.{depth_le}
 use Rattle.plan.proofs.Distributing.{share, extra, taken_le, taken_pos, extra_lt, children_some}
 use Rattle.plan.proofs.Lists.{sum_kids_of}
 use Rattle.plan.proofs.Plans.{plan_size, plan_count}
@@ -35,7 +34,6 @@ use Rattle.format.proofs.Fields.{leaf_joined, records_many}
 use Rattle.format.specs.Fit.{Fit}
 use Rattle.format.proofs.Lengths.{length_image, length_children}
 use Rattle.format.specs.declared.Request.{Request}
-use Rattle.format.specs.Request.{depth_of}
 use Rattle.btree_v2_write.specs.declared.node.Child.{Child}
 use Rattle.btree_v2_write.specs.declared.node.InternalNode.{InternalNode}
 use Rattle.btree_v2_write.specs.Shares.{two_sizes, with_one, nodes_of_all, child_shares, children_of, internal_node_fields, InternalNodeFits}
@@ -198,9 +196,10 @@ module _ {q : Request} {R I depth n j r k b x : ℕ} (distributed : Split q R I 
   kept_small : k < 2 ^ 24
   kept_small = omega (arith, distributed.kept, kept_few ready)
 
-  pub pointer_is : {t : NodeInfo} → t ≡ info_at q.geometry (depth_of q) → {p : ChildPointer} → p ≡ pointer_in t q.geometry.offset_size under → p ≡ child_pointer q under
-  pointer_is {t} table e =
-      e ∙ pointer_entry q.geometry (depth_of q) t table under (omega (arith, ready.low)) (depth_le q.record_count q.geometry) q.geometry.offset_size
+  -- The pointers are as a table says that is at least as deep.
+  pub pointer_is : {t : NodeInfo} {D : ℕ} → D ≤ 32 → t ≡ info_at q.geometry D → depth ≤ D → {p : ChildPointer} → p ≡ pointer_in t q.geometry.offset_size under
+      → p ≡ child_pointer q under
+  pointer_is {t} {D} top table deep e = e ∙ pointer_entry q.geometry D t table under (omega arith) top q.geometry.offset_size
 
   extra_few : x ≤ k
   extra_few = omega (arith, distributed.extra, distributed.kept, extra_lt (capacities q under) n)
@@ -249,25 +248,23 @@ some_nodes : {d : ℕ} {t : Tree d} {x : Child} → ChildOf d t x → 0 < x.node
 unfolding nodes
 some_nodes y = omega (arith, y.nodes)
 
-abbrev internal_node_at : ℕ → (b : ℕ) → ℕ → (large small : Child) → ChildPointer → ℕ → ℕ → b < 2 ^ 32 → (0 < large.nodes) × (0 < small.nodes) → InternalNode
-internal_node_at k b x large small p j r few some =
+abbrev internal_node_at : ℕ → ℕ → ℕ → Child → Child → ChildPointer → ℕ → ℕ → InternalNode
+internal_node_at k b x large small p j r =
     record {
       distributed = record { kept = k; base = b; extra = x };
       large = large;
       small = small;
       pointer = p;
       first = record { nodes = j; records = r };
-      few = few;
-      some = some;
     }
 
--- Before the loop: what is distributed, and the first child.
-module _ {q : Request} {t : NodeInfo} (table : t ≡ info_at q.geometry (depth_of q)) {R I depth n j r : ℕ} {x : Distribution}
-    (given : Ready q R I depth n j r) (pos : depth ≡ 0 → ⊥) (dealt : x ≡ distribution (level_in t (depth - 1)).cum_max_nrec n) where
+-- Before the loop: what is distributed, by a table that is at least as deep, and the first child.
+module _ {q : Request} {t : NodeInfo} {D : ℕ} (top : D ≤ 32) (table : t ≡ info_at q.geometry D) {R I depth n j r : ℕ} {x : Distribution}
+    (deep : depth ≤ D) (given : Ready q R I depth n j r) (pos : depth ≡ 0 → ⊥) (dealt : x ≡ distribution (level_in t (depth - 1)).cum_max_nrec n) where
   by_capacity : x ≡ distribution (capacities q (depth - 1)) n
   by_capacity =
-      let low : depth - 1 ≤ depth_of q = omega (arith, given.low) in
-      dealt ∙ ap (λ c. distribution c n) (subtree_entry q.geometry (depth_of q) t table (depth - 1) low (depth_le q.record_count q.geometry))
+      let within : depth - 1 ≤ D = omega arith in
+      dealt ∙ ap (λ c. distribution c n) (subtree_entry q.geometry D t table (depth - 1) within top)
 
   pub now_distributed : Split q R I depth n j r x.kept x.base x.extra
   now_distributed =
@@ -405,12 +402,12 @@ module _ {q : Request} {recs : List ℕ} {depth n j r k b x : ℕ} {o₁ o : Lis
           }
 
   -- The root, once the last child is written.
-  module _ (last_is : i ≡ k + 1) where
+  module _ (past : k < i) where
+    last_is : i ≡ k + 1
+    last_is = omega (arith, inv.within)
+
     last_returned : ChildOf d (subtree q d (pick (ltb (i - 1) x) (b + 1) b)) small
     last_returned = inv.of_last (omega (arith, last_is, some_kept inv.distributed))
-
-    pub root_some : (0 < large.nodes) × (0 < small.nodes)
-    root_some = (some_nodes inv.of_first, some_nodes last_returned)
 
     none_left : rest i ≡ []
     none_left = from_end (k + 1) x (b + 1) b i (omega arith)
@@ -461,9 +458,9 @@ module _ {q : Request} {recs : List ℕ} {depth n j r k b x : ℕ} {o₁ o : Lis
           drop_after o₀ o (j * q.geometry.node_size) whole children_done place (omega (arith, (ready inv.distributed).room, same))
 
     -- The root, with pointers as the table says.
-    module _ (p : ChildPointer) (is : p ≡ child_pointer q d) (few : b < 2 ^ 32) (some : (0 < large.nodes) × (0 < small.nodes)) where
+    module _ (p : ChildPointer) (is : p ≡ child_pointer q d) where
       abbrev internal : InternalNode
-      internal = internal_node_at k b x large small p j r few some
+      internal = internal_node_at k b x large small p j r
 
       numbers : Numbers q recs d n (thick (ready inv.distributed)) internal
       numbers =
@@ -478,17 +475,20 @@ module _ {q : Request} {recs : List ℕ} {depth n j r k b x : ℕ} {o₁ o : Lis
             pointer = is;
           }
 
-      pub root_fits : InternalNodeFits q (length recs) internal
+      pub root_fits : 0 < q.geometry.record_size → InternalNodeFits q (length recs) internal
       unfolding count
-      root_fits =
+      root_fits size =
           let node = ready inv.distributed in
           let bytes = rw (plan_count (capacities q) d n) at node.fits.0.node in
           let within : r + with_one (child_shares internal) ≤ r + n = omega (arith, records_within q recs d n (thick node) internal numbers) in
           let ends : j + nodes_of_all (children_of internal) ≤ j + subtree_nodes q (suc d) n =
           omega (arith, nodes_are q recs d n (thick node) internal numbers, nodes_below node) in
           record {
+            size = size;
+            few = base_few inv.distributed;
             bytes = rw (is, inv.distributed.kept) (omega (arith, bytes));
             in_list = le_trans (mul-le-mul_right q.geometry.record_size within) node.in_list;
+            some = (some_nodes inv.of_first, some_nodes last_returned);
             short = omega (arith, mul-le-mul_right q.geometry.node_size ends, node.short);
           }
 
@@ -502,7 +502,7 @@ module _ {q : Request} {recs : List ℕ} {depth n j r k b x : ℕ} {o₁ o : Lis
       root_done {o₀} {m} e same first {z} {budget} many written =
           let node = ready inv.distributed in
           let own = joined (internal_node_fields q recs internal) in
-          let all = take_all budget (internal_node_fields q recs internal) (le_trans (internal_few recs root_fits (kept_small inv.distributed)) many) in
+          let all = take_all budget (internal_node_fields q recs internal) (le_trans (internal_few q recs internal (kept_small inv.distributed)) many) in
           let room : j * q.geometry.node_size ≤ length o₀ = omega (arith, node.room, same) in
           subst (λ (u : ℕ). SubtreeWritten q recs o₀ z u n j r (record { records = k; total = n; nodes = next + 1 - j })) (sym (deeper inv.distributed))
           (record {

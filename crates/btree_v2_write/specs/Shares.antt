@@ -50,11 +50,15 @@ children_of x = two_sizes (x.distributed.kept + 1) x.distributed.extra x.large x
 pub record PointerFits (q : Request) (length at : ℕ) (x : Child) (p : ChildPointer) (j : ℕ) : Type 0 where
   pub bytes : at + pointer_size p ≤ length
   pub some : 0 < x.nodes
+  pub size : 0 < q.geometry.node_size
   pub short : q.start + (j + x.nodes) * q.geometry.node_size < 2 ^ 64
 
 -- So do the pointers to all children of x.
 pub record PointersFit (q : Request) (length at : ℕ) (x : InternalNode) : Type 0 where
   pub bytes : at + (x.distributed.kept + 1) * pointer_size x.pointer ≤ length
+  pub large : 0 < x.large.nodes
+  pub small : 0 < x.small.nodes
+  pub size : 0 < q.geometry.node_size
   pub short : q.start + (x.first.nodes + nodes_of_all (children_of x)) * q.geometry.node_size < 2 ^ 64
 
 -- The fields of an internal node between its front and its end: its own records, and then its pointers.
@@ -70,6 +74,9 @@ internal_node_fields q recs x =
 
 -- The numbers of an internal node that can be filled from a record list of this length.
 pub record InternalNodeFits (q : Request) (records : ℕ) (x : InternalNode) : Type 0 where
+  pub size : 0 < q.geometry.record_size
+  pub few : x.distributed.base < 2 ^ 32
   pub bytes : 10 + (x.distributed.kept * q.geometry.record_size + (x.distributed.kept + 1) * pointer_size x.pointer) ≤ q.geometry.node_size
   pub in_list : (x.first.records + with_one (child_shares x)) * q.geometry.record_size ≤ records
+  pub some : (0 < x.large.nodes) × (0 < x.small.nodes)
   pub short : q.start + (x.first.nodes + nodes_of_all (children_of x)) * q.geometry.node_size < 2 ^ 64

@@ -7,7 +7,6 @@ use Rattle.plan.specs.Planned.{plan_tree, thin}
 use Rattle.format.specs.Bytes.{image}
 use Rattle.format.specs.Fit.{Fit}
 use Rattle.format.specs.declared.Request.{Request}
-use Rattle.format.specs.Request.{depth_of}
 use Rattle.btree_v2_write.specs.declared.node.Child.{Child}
 use Rattle.btree_v2_write.specs.declared.node.Place.{Place}
 
@@ -25,10 +24,10 @@ subtree_nodes q d n = nodes d (subtree q d n)
 unfoldable pub subtree_image : Request → List ℕ → ℕ → ℕ → ℕ → ℕ → List ℕ
 subtree_image q recs d n j r = image q recs d (subtree q d n) j r
 
--- A subtree that can be written: it is no deeper than the tree, its records are among 2^24, it is a leaf or not too thin, its
+-- A subtree that can be written: its depth is 32 at most, its records are among 2^24, it is a leaf or not too thin, its
 -- nodes fit, its records are in the list, its nodes in the image, and its addresses below 2^64.
 pub record Ready (q : Request) (records image d n j r : ℕ) : Type 0 where
-  pub low : d ≤ depth_of q
+  pub low : d ≤ 32
   pub few : r + n < 2 ^ 24
   pub thick : 1 ≤ d → thin (capacities q) d n ≡ false
   pub fits : Everywhere (Fit q.geometry) d (subtree q d n)

@@ -18,7 +18,6 @@ mod node;
 mod subtree;
 
 // Writes an accepted tree: its nodes, and then its header, of what the root came to.
-#[tactic(auto, using(crate::proofs::Calls::sizes))]
 fn write_planned(
     request: &Request,
     planned: &PlanAndTable,

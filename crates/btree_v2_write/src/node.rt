@@ -20,7 +20,6 @@ pub(crate) struct Writing<'a> {
     pub(crate) request: Request,
     pub(crate) records: &'a [u8],
     pub(crate) info: &'a NodeInfo,
-    ghost sized: { (0 < request.geometry.record_size) × (0 < request.geometry.node_size) },
     ghost table: { info.now ≡ info_at request.geometry (depth_of request) },
 }
 
@@ -48,8 +47,6 @@ pub(crate) struct InternalNode {
     pub(crate) small: Child,
     pub(crate) pointer: ChildPointer,
     pub(crate) first: Place,
-    ghost few: { distributed.base < 2 ^ 32 },
-    ghost some: { (0 < large.nodes) × (0 < small.nodes) },
 }
 
 // The records of child i. Not a method of plan's `Distribution`, which would be public: it asks for a `base` that one can be added to, and a public
@@ -90,8 +87,8 @@ impl Writing<'_> {
     // Puts the node's own records as the next fields, those that may still be put.
     #[tactic(auto, using(crate::proofs::Internal::record_place_lem, crate::proofs::Internal::record_there))]
     fn put_own_records(&self, filling: &mut Filling<'_>, internal: &InternalNode)
-        requires { (filling.old.at + internal.now.distributed.kept * self.now.request.geometry.record_size ≤ length filling.old.node.now)
-            × ((internal.now.first.records + with_one (child_shares internal.now)) * self.now.request.geometry.record_size ≤ length self.now.records.now) }
+        requires { (internal.now.distributed.base < 2 ^ 32) × (filling.old.at + internal.now.distributed.kept * self.now.request.geometry.record_size ≤ length filling.old.node.now)
+            × ((internal.now.first.records + with_one (child_shares internal.now)) * self.now.request.geometry.record_size ≤ length self.now.records.now) × (0 < self.now.request.geometry.record_size) }
         ensures { Filled filling.old (records_after self.now.request.geometry.record_size self.now.records.now (child_shares internal.now) internal.now.first.records) filling.new }
     {
         let record_size = self.request.geometry.record_size as usize;

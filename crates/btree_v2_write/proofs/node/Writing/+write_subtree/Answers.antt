@@ -1,11 +1,12 @@
 -- The cycle of `write_subtree`: the depth falls. The loop over the children from child 1 on: what is left to store, stored at the node reached,
 -- gives all of it.
-use Prim.Native.Nat.{ℕ, ◌+◌}
-use mathlib.Core.Path.{◌≡◌, refl}
+use Prim.Native.Nat.{ℕ, ◌+◌, ◌<◌}
+use mathlib.Core.Path.{◌≡◌}
 use native.Mathlib.Omega.{arith}
 use borrow.Author.Rules.{rules}
+use Rattle.plan.proofs.Depths.{depth_le}
 use Rattle.btree_v2_write.proofs.Subtrees.{leaf_room, leaf_fits, whole_node, leaf_done, first_asked, now_distributed, first_next_fits, first_after_fits}
-use Rattle.btree_v2_write.proofs.Subtrees.{KidsLeft, loop_start, kid_ready, kid_next_fits, kid_after_fits, loop_turn, next_fits, next_least, pointer_is, base_few, root_some, root_fits, root_room, root_done}
+use Rattle.btree_v2_write.proofs.Subtrees.{KidsLeft, loop_start, kid_ready, kid_next_fits, kid_after_fits, loop_turn, next_fits, next_least, pointer_is, root_fits, root_room, root_done}
 use Rattle.btree_v2_write.proofs.node.Writing.+write_subtree.Goals as goal
 use Rattle.btree_v2_write.proofs.node.Writing.+write_subtree.Goals.{Left-loop-i, else-loop-i-test, then-loop-i-test+else-i-i-end}
 
@@ -18,20 +19,24 @@ pub returns-then-depth-eq0 : goal.returns-then-depth-eq0
 returns-then-depth-eq0 t c = search (leaf_done, whole_node)
 
 pub write_subtree-large-requires : goal.write_subtree-large-requires
-write_subtree-large-requires t c = (omega arith, first_asked c.args.self.now.table c.requires c.if-depth-eq0.false c.distribute-distributed.ensures _ c.share.ensures)
+write_subtree-large-requires t c =
+    let first = first_asked (depth_le _ _) c.args.self.now.table c.requires.deep c.requires.ready c.if-depth-eq0.false c.distribute-distributed.ensures _ c.share.ensures in
+    (omega arith, (c.requires.sized, (omega arith, first)))
 
 pub after-next-requires : goal.after-next-requires
 after-next-requires t c =
-    let distributed = now_distributed c.args.self.now.table c.requires c.if-depth-eq0.false c.distribute-distributed.ensures in
+    let distributed = now_distributed (depth_le _ _) c.args.self.now.table c.requires.deep c.requires.ready c.if-depth-eq0.false c.distribute-distributed.ensures in
     (first_next_fits distributed c.share.ensures c.write_subtree-large.ensures, first_after_fits distributed c.share.ensures c.write_subtree-large.ensures)
 
 pub loop-i-init : goal.loop-i-init
 loop-i-init t c =
-    let distributed = now_distributed c.args.self.now.table c.requires c.if-depth-eq0.false c.distribute-distributed.ensures in
+    let distributed = now_distributed (depth_le _ _) c.args.self.now.table c.requires.deep c.requires.ready c.if-depth-eq0.false c.distribute-distributed.ensures in
     rw c.after-next.ensures (loop_start distributed c.share.ensures c.write_subtree-large.ensures _ c.write_subtree-large.auto.image)
 
 pub write_subtree-small-requires : goal.write_subtree-small-requires
-write_subtree-small-requires t c = (omega arith, kid_ready c.loop-i.invariant c.loop-i-test.true c.share-in-loop-i.ensures)
+write_subtree-small-requires t c =
+    let kid = kid_ready c.loop-i.invariant c.loop-i-test.true c.share-in-loop-i.ensures in
+    (omega arith, (c.requires.sized, (omega arith, kid)))
 
 pub after-next-requires-in-loop-i : goal.after-next-requires-in-loop-i
 after-next-requires-in-loop-i t c =
@@ -59,26 +64,25 @@ all_written t c =
           (loop_turn c.loop-i.invariant w.loop-i-test.true w.share-in-loop-i.ensures w.write_subtree-small.ensures)
     ]
 
-pub invariant_of-internal : goal.invariant_of-internal
-invariant_of-internal t c =
-    let inv = all_written t (goal.at.invariant_of-internal t c).Left-loop-i in
-    record { few = base_few inv.distributed; some = root_some inv refl }
+-- The children written are more than the node keeps records.
+past : (k : ℕ) → k < k + 1
+past k = omega arith
 
 pub write_internal-requires : goal.write_internal-requires
 write_internal-requires t c =
     let inv = all_written t (goal.at.write_internal-requires t c).Left-loop-i in
-    record { numbers = root_fits inv refl _ (pointer_is inv.distributed c.args.self.now.table c.pointer_to.ensures) _ _; room = root_room inv refl }
+    record { numbers = root_fits inv (past _) _ (pointer_is inv.distributed (depth_le _ _) c.args.self.now.table c.requires.deep c.pointer_to.ensures) c.requires.sized; room = root_room inv (past _) }
 
 pub overflow_add-result : goal.overflow_add-result
-overflow_add-result t c = omega (arith, next_fits (all_written t (goal.at.overflow_add-result t c).Left-loop-i) refl)
+overflow_add-result t c = omega (arith, next_fits (all_written t (goal.at.overflow_add-result t c).Left-loop-i) (past _))
 
 pub overflow_sub-result : goal.overflow_sub-result
 overflow_sub-result t c =
     let inv = all_written t (goal.at.overflow_sub-result t c).Left-loop-i in
-    omega (arith, next_least inv refl)
+    omega (arith, next_least inv (past _))
 
 pub returns : goal.returns
 returns t c =
     let inv = all_written t (goal.at.returns t c).Left-loop-i in
-    root_done inv refl _ (pointer_is inv.distributed c.args.self.now.table c.pointer_to.ensures) _ _ c.share.ensures
+    root_done inv (past _) _ (pointer_is inv.distributed (depth_le _ _) c.args.self.now.table c.requires.deep c.pointer_to.ensures) c.share.ensures
     c.write_subtree-large.auto.image c.write_subtree-large.ensures whole_node c.write_internal.ensures

@@ -9,7 +9,7 @@ put_own_records-requires c =
     let fits = c.requires.numbers in
     let front = internal_front _ fits c.begin-filling.ensures in
     let room = internal_room _ fits c.begin-filling.ensures c.requires.room in
-    (own_room _ fits c.begin-filling.result room front, fits.in_list)
+    (fits.few, own_room _ fits c.begin-filling.result room front, fits.in_list, fits.size)
 
 pub put_pointers-requires : goal.put_pointers-requires
 put_pointers-requires c =

@@ -4,10 +4,10 @@ use native.Mathlib.Omega.{arith}
 use Rattle.btree_v2_write.proofs.node.Writing.put_pointers.Goals as goal
 
 pub put_pointer-requires : goal.put_pointer-requires
-put_pointer-requires c = pointer_fits _ _ _ c.loop-i.invariant (omega arith) c.of_child-child.ensures c.requires c.args.internal.now.some
+put_pointer-requires c = pointer_fits _ _ _ c.loop-i.invariant (omega arith) c.of_child-child.ensures c.requires
 
 pub overflow_add-next : goal.overflow_add-next
-overflow_add-next c = next_fits _ _ _ c.loop-i.invariant (omega arith) c.of_child-child.ensures c.requires c.args.self.now.sized.1
+overflow_add-next c = next_fits _ _ _ c.loop-i.invariant (omega arith) c.of_child-child.ensures c.requires
 
 pub loop-i-preserved : goal.loop-i-preserved
 loop-i-preserved c = pointers_turn _ _ _ c.loop-i.invariant (omega arith) c.of_child-child.ensures c.requires c.put_pointer.ensures
