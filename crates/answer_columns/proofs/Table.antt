@@ -4,8 +4,10 @@ use Rattle.std.proofs.Common.{◌≡◌, ℕ, zero, suc, ◌+◌, ◌≤◌, ◌
 use mathlib.Core.List.{append-nil}
 use native.Mathlib.Nat.{zero-add}
 use borrow.Rule.Slice.PartMut.{put_mid}
-use lib.ListN.{length-take, length-drop, take-append-drop, drop_of_length-le}
-use lib.Seq.{get_or-take, get_or-drop, drop-drop, take-take, take_all}
+use lib.ListN.{length-take, length-drop, length-replicate, take-append-drop, drop_of_length-le}
+use lib.Seq.{get_or-take, get_or-drop, drop-drop, length-take-le, take-take, take_all}
+use Rattle.numbers.specs.Places.{put}
+use Rattle.numbers.proofs.Lists.{put_fits, stored_is}
 use Rattle.node_info.specs.declared.NodeInfo.{NodeInfo}
 use Rattle.node_info.specs.declared.Level.{Level}
 use Rattle.node_info.specs.Table.{no_level, table_figures}
@@ -25,6 +27,15 @@ refusal_put cause (suc (suc (suc m))) e =
     let three : min (suc (suc (suc m))) 3 ≡ 3 = omega arith in
     let all : suc (suc (suc m)) ≡ m + 3 = omega arith in
     rw (three, e, take_all 3 (cells 3 (refusal_of cause)) (omega (arith, length_cells 3 (refusal_of cause))), all) (sym (cells_more cause m))
+
+-- So they are where they are put over zeros o, as many as there are.
+pub refusal_over : (cause : Refusal) (k : ℕ) {t o n : List ℕ} → t ≡ cells 3 (refusal_of cause) → o ≡ replicate k 0 → n ≡ put o 0 (take (min k 3) t)
+    → n ≡ cells k (refusal_of cause)
+refusal_over cause k {t} e zeros is =
+    let few : length (take (min k 3) t) ≡ min k 3 = length-take-le (min k 3) t (rw (e, length_cells) (omega arith)) in
+    let room : 0 + length (take (min k 3) t) ≤ length (replicate k 0) = rw (few, length-replicate) (omega arith) in
+    let put_there = put_fits (replicate k 0) 0 (take (min k 3) t) room in
+    rw (is, zeros) (put_there ∙ stored_is (replicate k 0) 0 (take (min k 3) t) ∙ rw (few, zero-add) (refusal_put cause k e))
 
 -- What stands from a place on: a piece, and what stands behind it.
 piece : (a x y : List ℕ) (p n : ℕ) → length x ≡ n → p + n ≤ length a → ((k : ℕ) → k < n → get_or a (p + k) 0 ≡ get_or x k 0) → drop (p + n) a ≡ y → drop p a ≡ x ++ y

@@ -11,7 +11,7 @@ use node_info::{Level, NodeInfo};
 use refusal::{Code, Refusal};
 
 // A refusal's number and values, as far as there are places for them, and zeros.
-#[tactic(auto, using(crate::proofs::Table::refusal_put))]
+#[tactic(auto, using(crate::proofs::Table::refusal_over))]
 pub fn put_refusal(answer: &mut [u64], cause: Refusal)
     ensures { answer.new ≡ cells (length answer.old) (refusal_of cause) }
 {
@@ -19,7 +19,7 @@ pub fn put_refusal(answer: &mut [u64], cause: Refusal)
     let told = [code.number, code.first, code.second];
     let count = answer.len().min(3);
     answer.fill(0);
-    answer[..count].copy_from_slice(&told[..count]);
+    numbers::put(answer, 0, &told[..count]);
 }
 
 // The table's columns: level by level, an entry into each. A slice, and not an array of 99: the caller would get that as an Option, and have to

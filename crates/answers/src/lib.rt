@@ -5,8 +5,10 @@
 
 ghost use Rattle.std.specs.Prelude.{◌≡◌, ℕ, List, [], ◌∷◌, ◌++◌};
 ghost use Rattle.refusal.specs.Answer.{accepted, answer_of, cells};
+ghost use Rattle.numbers.specs.Places.{put};
 ghost use Rattle.plan.specs.Planned.{plan_numbers};
 ghost use Rattle.btree_v2_header.specs.Header.{header_figures};
+ghost use Rattle.btree_v2_header.specs.Answers.{header_answer_of};
 ghost use Rattle.btree_v2_record.specs.Answers.{values_of};
 ghost use Rattle.btree_v2_collect.specs.Answers.{collected_cells};
 ghost use Rattle.btree_v2_find.specs.Answers.{found_cells};
@@ -39,6 +41,15 @@ pub fn numbers_of<const N: usize, T: Figures<N>>(given: Result<T, Refusal>) -> [
             numbers
         }
     }
+}
+
+// A header read's first eight numbers, all but the base, over the front of an array; where it has fewer places nothing is changed.
+#[tactic(auto, using(crate::proofs::Headers::header_put))]
+pub fn put_header(answer: &mut [u64], parsed: Result<BTreeV2Header, Refusal>)
+    ensures { answer.new ≡ put answer.old 0 (cells 8 (header_answer_of parsed)) }
+{
+    let told: [u64; 9] = numbers_of(parsed);
+    numbers::put(answer, 0, &told[..8]);
 }
 
 // The plan's figures, which are those of a write too.

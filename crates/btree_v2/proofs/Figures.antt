@@ -1,15 +1,17 @@
 -- The header that a C caller's figures tell, and the functions without a base by those with one.
 use Rattle.std.proofs.Common.{Ok}
-use mathlib.Core.Path.{◌≡◌, refl, sym, ◌∙◌}
+use mathlib.Core.Path.{◌≡◌, refl}
 use mathlib.Core.List.{List, [], ◌∷◌, ◌++◌}
-use Prim.Native.Nat.{ℕ, ◌+◌, ◌^◌, ◌≤◌, ◌<◌}
+use Prim.Native.Nat.{ℕ, ◌+◌, ◌^◌, ◌<◌}
 use native.Mathlib.Nat.{mod-eq_of_lt}
 use native.Mathlib.Omega.{arith}
-use lib.ListN.{length, get_or, take, drop, get_or-eq_default}
+use lib.ListN.{length, get_or, drop, get_or-eq_default}
 use lib.Seq.{get_or-drop}
 use Rattle.numbers.proofs.Numbers.{num_lt}
-use Rattle.refusal.specs.Answer.{cells}
-use Rattle.refusal.proofs.Answers.{cells_front}
+use Rattle.numbers.specs.Places.{put}
+use Rattle.numbers.proofs.Lists.{put_fits, stored_whole}
+use Rattle.refusal.specs.Answer.{Answer, cells}
+use Rattle.refusal.proofs.Answers.{length_cells}
 use Rattle.field.specs.declared.Field.{Field}
 use Rattle.btree_v2_header.specs.declared.BTreeV2Header.{BTreeV2Header}
 use Rattle.btree_v2_header.specs.Header.{header_figures, header_at, with_base, parsed, parsed_at}
@@ -55,9 +57,12 @@ carried_on file base o ow lw h bytes parses =
 
 -- The functions without a base by those with one: base 0.
 module _ (file : List ℕ) where
-  -- Eight numbers of a header read.
-  pub parse_whole : (o ow lw : ℕ) → take 8 (cells 9 (parsed_at file 0 o ow lw)) ≡ cells 8 (parsed file o ow lw)
-  parse_whole o ow lw = cells_front 8 (parsed_at file 0 o ow lw) ∙ cells_whole 8 file o ow lw
+  -- Eight numbers of a header read, over an answer of eight places.
+  pub parse_whole : (o ow lw : ℕ) (answer : List ℕ) {read : Answer} → length answer ≡ 8 → read ≡ parsed_at file 0 o ow lw
+      → put answer 0 (cells 8 read) ≡ cells 8 (parsed file o ow lw)
+  parse_whole o ow lw answer {read} eight is =
+      let long = length_cells 8 read in
+      rw (put_fits answer 0 (cells 8 read) (omega (arith, long)), stored_whole answer (cells 8 read) (omega (arith, long)), is) (cells_whole 8 file o ow lw)
 
   -- Of seven figures the base is 0.
   pub find_whole : (l : List ℕ) (ow : ℕ) (f : Field) (x : ℕ) → length l ≡ 7 → found_at file (header_from l ow) f x ≡ found file (header_from l ow) f x

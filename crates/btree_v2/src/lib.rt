@@ -120,9 +120,8 @@ pub extern "C" fn btree_v2_parse(
 )
     ensures { answer.new ≡ cells 8 (parsed file.now offset offset_size length_size) }
 {
-    let mut numbers = [0; 9];
-    btree_v2_parse_at(file, 0, offset, offset_size, length_size, &mut numbers);
-    answer.copy_from_slice(&numbers[..8]);
+    let parsed = BTreeV2Header::parse(file, 0, offset, offset_size, length_size);
+    answers::put_header(answer, parsed);
 }
 
 #[unsafe(no_mangle)]

@@ -3,14 +3,13 @@ use Rattle.std.specs.Prelude.{Ok, Err}
 use mathlib.Core.Path.{◌≡◌}
 use mathlib.Core.List.{List}
 use Prim.Native.Nat.{ℕ, ◌+◌, ◌-◌, ◌*◌, ◌≤◌, ◌<◌}
-use native.Mathlib.Nat.{add-zero, add-mul, add-sub_cancel_left, mul-le-mul_right}
-use lib.Seq.{drop-drop}
+use native.Mathlib.Nat.{add-zero, add-mul, mul-le-mul_right}
 use native.Mathlib.Omega.{arith}
 use lib.ListN.{length}
-use borrow.Rule.Slice.PartMut.{put_mid}
 use Rattle.numbers.specs.Numbers.{part}
-use Rattle.numbers.specs.Places.{stored}
-use Rattle.numbers.proofs.Lists.{length_part, length_stored, stored_is}
+use Rattle.numbers.specs.Places.{stored, put}
+use Rattle.numbers.proofs.Copying.{part_put}
+use Rattle.numbers.proofs.Lists.{length_part, length_stored}
 use Rattle.btree_v2_collect.specs.Walk.{fine, records_put}
 use Rattle.btree_v2_collect.proofs.Outcomes.{put_some}
 use Rattle.btree_v2_collect.proofs.Puts.{puts_records}
@@ -22,10 +21,6 @@ use Rattle.node_info.specs.declared.Geometry.{Geometry}
 -- How many records fit.
 abbrev pub Fitting : ℕ → ℕ → ℕ → ℕ → Type 0
 Fitting n k room r = (r ≤ n) × (r * k ≤ room) × (r < n → room < (r + 1) * k)
-
--- Bytes put at a place where they fit.
-put_mid_stored : (o b d : List ℕ) (at k : ℕ) → d ≡ b → length b ≡ k → at + k ≤ length o → put_mid at k o d ≡ stored o at b
-put_mid_stored o b d at k e l h = rw (e, stored_is, l, drop-drop)
 
 -- `put_records`.
 module _ (file : List ℕ) (g : Geometry) (from n : ℕ) (t : Tally) (o : List ℕ) (some : 0 < g.record_size)
@@ -41,19 +36,15 @@ module _ (file : List ℕ) (g : Geometry) (from n : ℕ) (t : Tally) (o : List �
   records : (t.records + fit) * g.record_size ≤ length o
   records = rw add-mul part_room
 
-  module _ (d : List ℕ) (put : d ≡ part file from (from + fit * g.record_size - from)) where
-    abbrev after : List ℕ
-    after = put_mid (t.records * g.record_size) (t.records * g.record_size + fit * g.record_size - t.records * g.record_size) o d
+  module _ (after : List ℕ) (put : after ≡ put o (t.records * g.record_size) (part file from (from + fit * g.record_size - from))) where
+    bytes : length (part file from (fit * g.record_size)) ≡ fit * g.record_size
+    bytes = length_part file from (fit * g.record_size) part_there
 
     records_stored : after ≡ stored o (t.records * g.record_size) (part file from (fit * g.record_size))
-    records_stored =
-        let bytes = rw add-sub_cancel_left at put in
-        let whole = length_part file from (fit * g.record_size) part_there in
-        rw add-sub_cancel_left (put_mid_stored o _ d (t.records * g.record_size) (fit * g.record_size) bytes whole part_room)
+    records_stored = part_put o file after (t.records * g.record_size) from (fit * g.record_size) part_room part_there put
 
     long : length after ≡ length o
-    long =
-        rw (records_stored, length_stored o (t.records * g.record_size) (part file from (fit * g.record_size)) (rw (length_part file from (fit * g.record_size) part_there) part_room))
+    long = rw (records_stored, length_stored o (t.records * g.record_size) (part file from (fit * g.record_size)) (rw bytes part_room))
 
     abbrev counted : Tally
     counted = record { records = t.records + fit; leaves = t.leaves; internals = t.internals; internal_records = t.internal_records }

@@ -55,7 +55,7 @@ impl Walk<'_> {
         let at = self.tally.records as usize * (size as usize);
         let fit = fitting(n, size, self.output.len() - at);
         let bytes = fit * (size as usize);
-        self.output[at..at + bytes].copy_from_slice(&self.tree.file[from..from + bytes]);
+        numbers::put(self.output, at, &self.tree.file[from..from + bytes]);
         self.tally.records += fit as u64;
         if fit < n as usize {
             return Err(Refusal::OutputTooShort(self.output.len() as u64));

@@ -10,7 +10,7 @@ use native.Mathlib.Omega.{arith}
 use borrow.Rule.Slice.PartMut.{put_mid}
 use Rattle.std.proofs.Common.{zero-le}
 use borrow.Author.Tests.{le-leb, lt-leb}
-use lib.ListN.{length, set, take, drop, replicate, length-append, length-replicate}
+use lib.ListN.{length, set, take, replicate, length-append, length-replicate}
 use lib.Seq.{drop-drop, take_all, length-take-le}
 use Rattle.std.proofs.lemmas.Bool.{cases_lt}
 use Rattle.numbers.specs.Numbers.{le, part}
@@ -39,26 +39,26 @@ module _ (o s : List ℕ) (type k : ℕ) where
     front_none l =
         let e : k ≡ 0 = omega arith in rw (fronted_is, e) (sym (filled_none (front_fields s type) o) ∙ filled_stored 0 _ o)
 
-    -- The signature c is copied, and one byte is put after another.
-    module _ (c : List ℕ) (is : c ≡ s) (four : length s ≡ 4) where
-      signed : c ++ drop 4 o ≡ stored o 0 s
-      signed = rw (stored_is, is, zero-add, four)
+    -- c has the signature at the front, and one byte is put after another.
+    module _ (c : List ℕ) (is : c ≡ put o 0 s) (four : length s ≡ 4) where
+      signed : c ≡ stored o 0 s
+      signed = rw (is, put_fits o 0 s (rw (zero-add, four) (omega (arith, h))))
 
       next_byte : (b : List ℕ) (m x : ℕ) → m ≡ length b → m < length o → set (stored o 0 b) m x ≡ stored o 0 (b ++ (x ∷ []))
       next_byte b m x e l = rw (zero-add, ← e) at (stored_snoc o 0 b x (omega arith))
 
-      versioned : set (c ++ drop 4 o) 4 0 ≡ stored o 0 (s ++ (0 ∷ []))
+      versioned : set (c) 4 0 ≡ stored o 0 (s ++ (0 ∷ []))
       versioned = rw signed (next_byte s 4 0 (sym four) (omega arith))
 
-      pub front_signed : k < 2 → 1 ≤ k → c ++ drop 4 o ≡ fronted o s type k
+      pub front_signed : k < 2 → 1 ≤ k → c ≡ fronted o s type k
       unfolding front_fields joined
       front_signed l m = let e : k ≡ 1 = omega arith in rw (fronted_is, e, append-nil) signed
 
-      pub front_versioned : k < 3 → 2 ≤ k → set (c ++ drop 4 o) 4 0 ≡ fronted o s type k
+      pub front_versioned : k < 3 → 2 ≤ k → set (c) 4 0 ≡ fronted o s type k
       unfolding front_fields joined
       front_versioned l m = let e : k ≡ 2 = omega arith in rw (fronted_is, e) versioned
 
-      pub front_whole : 3 ≤ k → set (set (c ++ drop 4 o) 4 0) 5 type ≡ fronted o s type k
+      pub front_whole : 3 ≤ k → set (set (c) 4 0) 5 type ≡ fronted o s type k
       unfolding front_fields joined
       front_whole m =
           rw (fronted_is, take_all k (front_fields s type) m, versioned, next_byte (s ++ (0 ∷ [])) 5 type (rw (length-append, four)) h, append_assoc)

@@ -34,7 +34,7 @@ pub fn put_front(node: &mut [u8], signature: &[u8; 4], tree_type: u8, budget: us
     if node.len() < 6 || budget < 1 {
         return;
     }
-    node[..4].copy_from_slice(signature);
+    numbers::put(node, 0, signature);
     if budget < 2 {
         return;
     }

@@ -7,10 +7,10 @@ ghost use Rattle.checksum.specs.Lookup3.{mix_line_of, mixed, final_line_of, fina
 
 // The three words of lookup3's state.
 #[derive(Clone, Copy)]
-struct Words {
-    a: u32,
-    b: u32,
-    c: u32,
+pub struct Words {
+    pub a: u32,
+    pub b: u32,
+    pub c: u32,
 }
 
 impl Words {

@@ -78,6 +78,10 @@ module _ (g : Geometry) where
   subtree_lt h zero = rw subtree_zero (lt_of_le_of_lt (leaf_le g) h)
   subtree_lt h (suc u) = saturated_subtree u
 
+  pub total_le : (u : ℕ) → total_width g u ≤ 8
+  total_le zero = rw total_zero zero-le
+  total_le (suc u) = rw total_suc (width_le _)
+
   -- C and T never fall with the level; a level whose nodes hold none adds nothing to C.
   subtree_up : (u : ℕ) → subtree_capacity g u < 2 ^ 64 → subtree_capacity g u ≤ subtree_capacity g (suc u)
   subtree_up u h = rw subtree_suc (subtree_child (node_capacity g (suc u)) (subtree_capacity g u) h)

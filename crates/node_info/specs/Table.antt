@@ -1,5 +1,5 @@
 -- The capacity table as the call gives it: document 01, "Capacity table".
-use Rattle.std.specs.Prelude.{ℕ, zero, suc, ◌+◌, List, [], ◌∷◌, ◌++◌, leb, map, Result, slice_index_or, slice_set}
+use Rattle.std.specs.Prelude.{ℕ, zero, suc, ◌+◌, List, [], ◌∷◌, ◌++◌, leb, map, replicate, Result, slice_index_or, slice_set}
 use Rattle.numbers.specs.Numbers.{pick, width}
 use Rattle.refusal.specs.Answer.{Answer, accepted, refused, answer_of}
 use Rattle.node_info.specs.Capacity.{count_width, subtree, internal_capacity, total_width, node_capacity, subtree_capacity}
@@ -32,6 +32,10 @@ no_level = record { max_nrec = 0; cum_max_nrec = 0; cum_max_nrec_size = 0 }
 -- The table for depth d.
 unfoldable pub info_at : Geometry → ℕ → NodeInfo
 info_at g d = record { max_nrec_size = count_width g; levels = entries no_level (level_at g) d }
+
+-- The table of nothing: no width, and 33 levels that hold nothing.
+unfoldable pub no_info : NodeInfo
+no_info = record { max_nrec_size = 0; levels = replicate 33 no_level }
 
 -- A table's entries of level u, nothing above the highest.
 abbrev pub level_in : NodeInfo → ℕ → Level

@@ -194,3 +194,7 @@ module _ (s : ℕ) where
   pub field_size_8 : field_size s ≡ true → (s ≡ 2 → ⊥) → (s ≡ 4 → ⊥) → s ≡ 8
   unfolding field_size
   field_size_8 e h g = eqb-true s 8 (rw (ne_eqb s 2 h, ne_eqb s 4 g) at e)
+
+  pub field_size_4 : field_size s ≡ true → (s ≡ 2 → ⊥) → 4 ≤ s
+  field_size_4 e h =
+      ⊎_elim (λ (l : s < 4). let eight = field_size_8 e h (λ x. omega arith) in omega (arith, eight)) (λ (l : 4 ≤ s). l) (cases_lt s 4)

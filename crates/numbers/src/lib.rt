@@ -43,6 +43,16 @@ pub fn part(data: &[u8], at: u64, count: u64) -> &[u8]
     &rest[..count.min(rest.len() as u64) as usize]
 }
 
+// Copies a slice over another of the same length. A loop: `copy_from_slice` calls the C library's memmove, which no archive needs for anything else.
+fn copy<T: Copy>(to: &mut [T], from: &[T])
+    requires { length to.old ≡ length from.now }
+    ensures { to.new ≡ from.now }
+{
+    for (i, item) in from.iter().enumerate() {
+        to[i] = *item;
+    }
+}
+
 // Puts items at `at` where they fit; else changes nothing, which is promised and can't fail, so no Option.
 #[tactic(auto, using(crate::proofs::Copying::items_put, crate::proofs::Lists::put_not))]
 pub fn put<T: Copy>(data: &mut [T], at: usize, items: &[T])
@@ -50,7 +60,7 @@ pub fn put<T: Copy>(data: &mut [T], at: usize, items: &[T])
 {
     let (len, count) = (data.len(), items.len());
     if at <= len && count <= len - at {
-        data[at..at + count].copy_from_slice(items);
+        copy(&mut data[at..at + count], items);
     }
 }
 

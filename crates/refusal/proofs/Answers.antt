@@ -8,8 +8,8 @@ use mathlib.Core.List.{List, [], ◌∷◌, ◌++◌, append_assoc}
 use native.Mathlib.Nat.{add_comm}
 use native.Mathlib.Numerals.{add-one}
 use native.Mathlib.Omega.{arith}
-use lib.ListN.{length, take, replicate, length-take, length-append, length-replicate, replicate-append-replicate}
-use lib.Seq.{take-append-add, take-append-le, take-take, take_at}
+use lib.ListN.{length, get_or, take, replicate, length-take, length-append, length-replicate, replicate-append-replicate}
+use lib.Seq.{take-append-add, take-append-le, take-take, take_at, take-suc, take_all}
 use Rattle.refusal.specs.declared.Refusal.{Refusal}
 use Rattle.refusal.specs.declared.Refusal.TheVariants.{UnexpectedEof, InvalidBTreeV2Signature, InvalidBTreeV2Version, InvalidOffsetSize, InvalidLengthSize, ChecksumMismatch, InvalidNodeSize, ZeroRecordSize, TooManyRecords}
 use Rattle.refusal.specs.declared.Refusal.TheVariants.{LevelHoldsNone, SubtreeTooThin, RecordBufferLength, CountAboveLengthSize, AddressAboveOffsetSize, OutputTooShort, DepthAboveLimit}
@@ -58,6 +58,12 @@ pub cells_front : (k : ℕ) (a : Answer) → take k (cells (suc k) a) ≡ cells 
 unfolding cells
 cells_front k (accepted figures) = let few : k ≤ suc k = omega arith in rw (take-take k (suc k) _ few) (one_more k (0 ∷ figures))
 cells_front k (refused number values) = let few : k ≤ suc k = omega arith in rw (take-take k (suc k) _ few) (one_more k (number ∷ values))
+
+-- One number more is the numbers and that one behind them.
+pub cells_snoc : (k : ℕ) (a : Answer) → cells k a ++ (get_or (cells (suc k) a) k 0 ∷ []) ≡ cells (suc k) a
+cells_snoc k a =
+    let long : length (cells (suc k) a) ≡ suc k = length_cells (suc k) a in
+    rw (← cells_front k a, ← take-suc (cells (suc k) a) k 0 (omega arith), take_all (suc k) (cells (suc k) a) (omega arith))
 
 pub cells_refused : (k number : ℕ) (values : List ℕ) (n : ℕ) → k ≡ suc (length values) + n
     → cells k (refused number values) ≡ (number ∷ values) ++ replicate n 0

@@ -1,0 +1,2 @@
+-- A header's numbers over the front of an array.
+mod Headers
