@@ -35,10 +35,11 @@ use Rattle.format.proofs.HeaderLengths.{length_header_from}
 use Rattle.write_checks.proofs.Outputs.{header_left_lem, image_left_lem, header-put, image_put}
 use Rattle.numbers.proofs.Copying.{over_stored}
 use Rattle.btree_v2_write.specs.declared.node.Child.{Child}
-use Rattle.btree_v2_write.specs.Subtrees.{subtree, subtree_nodes, subtree_image, Ready, SubtreeWritten}
+use Rattle.btree_v2_write.specs.Subtrees.{subtree, subtree_nodes, subtree_image, RightBelow, Ready, SubtreeWritten}
 use Rattle.write_checks.specs.Tests.{Checked}
 use Rattle.btree_v2_write.specs.Call.{Accepted, Outputs, Wrote}
 use Rattle.btree_v2_write.proofs.Internal.{address_fits}
+use Rattle.btree_v2_write.proofs.Subtrees.{right_below}
 
 empty_fits : (g : Geometry) → 10 ≤ g.node_size → Fit g 0 0
 unfolding count
@@ -91,9 +92,9 @@ module _ {q : Request} {laid : PlanAndTable} {recs hdr img : List ℕ} (a : Acce
   pub sized : 0 < q.geometry.record_size
   sized = omega (arith, known.0.pass)
 
-  -- It is no deeper than its tree.
-  pub deep : p.depth ≤ depth_of q
-  deep = omega (arith, depth_is)
+  -- The table is right below the root.
+  pub table_right : RightBelow q laid.info p.depth
+  table_right = right_below a.table (depth_le q.record_count q.geometry) (omega (arith, depth_is))
 
   -- The image can be written.
   pub image_ready : Ready q (length recs) (length img) p.depth q.record_count 0 0

@@ -20,7 +20,7 @@ use Rattle.numbers.proofs.Lists.{stored_nil, stored_append, length_stored, drop_
 use Rattle.node_info.specs.declared.NodeInfo.{NodeInfo}
 use Rattle.node_info.specs.declared.ChildPointer.{ChildPointer}
 use Rattle.node_info.specs.Table.{info_at, level_in, pointer_in}
-use Rattle.node_info.proofs.Columns.{subtree_entry, pointer_entry}
+use Rattle.node_info.proofs.Columns.{subtree_entry, total_entry, pointer_entry}
 use Rattle.plan.specs.Tree.{Tree, sum_kids, between, nodes, below, count, size, AllKids, Everywhere}
 use Rattle.plan.specs.declared.Distribution.{Distribution}
 use Rattle.plan.specs.Planned.{distribution, taken, children, kids_of, plan_tree, thin}
@@ -37,9 +37,22 @@ use Rattle.format.specs.declared.Request.{Request}
 use Rattle.btree_v2_write.specs.declared.node.Child.{Child}
 use Rattle.btree_v2_write.specs.declared.node.InternalNode.{InternalNode}
 use Rattle.btree_v2_write.specs.Shares.{two_sizes, with_one, nodes_of_all, child_shares, children_of, internal_node_fields, InternalNodeFits}
-use Rattle.btree_v2_write.specs.Subtrees.{capacities, subtree, subtree_nodes, subtree_image, Ready, ChildOf, SubtreeWritten}
+use Rattle.btree_v2_write.specs.Subtrees.{capacities, subtree, subtree_nodes, subtree_image, RightBelow, Ready, ChildOf, SubtreeWritten}
 use Rattle.btree_v2_write.proofs.Internal.{from, from_first, from_step, from_end, number_fits, internal_few}
 use Rattle.btree_v2_write.proofs.Planned.{child_pointer, two_children, each_child, one_each, images, images_kids, sized, Numbers, nodes_node, nodes_are, records_within, image_is}
+
+-- A table of a depth is right below it and below every level that is not above it.
+pub right_below : {q : Request} {t : NodeInfo} {D d : ℕ} → t ≡ info_at q.geometry D → D ≤ 32 → d ≤ D → RightBelow q t d
+right_below {q} {t} {D} {d} table top deep =
+    record {
+      counts = ap (λ (p : ChildPointer). p.count_size) (pointer_entry q.geometry D t table 0 (omega arith) top 0);
+      caps = λ u h. subtree_entry q.geometry D t table u (omega arith) top;
+      widths = λ u h. total_entry q.geometry D t table u (omega arith) top;
+    }
+
+pub right_further : {q : Request} {t : NodeInfo} {d e : ℕ} → RightBelow q t d → e ≤ d → RightBelow q t e
+right_further right within =
+    record { counts = right.counts; caps = λ u h. right.caps u (omega arith); widths = λ u h. right.widths u (omega arith) }
 
 -- Bytes right after others.
 stored_turn : (o : List ℕ) (p q : ℕ) (x rest : List ℕ) → p ≤ length o → q ≡ p + length x
@@ -196,10 +209,9 @@ module _ {q : Request} {R I depth n j r k b x : ℕ} (distributed : Split q R I 
   kept_small : k < 2 ^ 24
   kept_small = omega (arith, distributed.kept, kept_few ready)
 
-  -- The pointers are as a table says that is at least as deep.
-  pub pointer_is : {t : NodeInfo} {D : ℕ} → D ≤ 32 → t ≡ info_at q.geometry D → depth ≤ D → {p : ChildPointer} → p ≡ pointer_in t q.geometry.offset_size under
-      → p ≡ child_pointer q under
-  pointer_is {t} {D} top table deep e = e ∙ pointer_entry q.geometry D t table under (omega arith) top q.geometry.offset_size
+  -- The pointers are as a table says that is right below the node.
+  pub pointer_is : {t : NodeInfo} → RightBelow q t depth → {p : ChildPointer} → p ≡ pointer_in t q.geometry.offset_size under → p ≡ child_pointer q under
+  pointer_is right e = rw (e, right.counts, right.widths under (omega (arith, distributed.pos))) refl
 
   extra_few : x ≤ k
   extra_few = omega (arith, distributed.extra, distributed.kept, extra_lt (capacities q under) n)
@@ -258,13 +270,11 @@ internal_node_at k b x large small p j r =
       first = record { nodes = j; records = r };
     }
 
--- Before the loop: what is distributed, by a table that is at least as deep, and the first child.
-module _ {q : Request} {t : NodeInfo} {D : ℕ} (top : D ≤ 32) (table : t ≡ info_at q.geometry D) {R I depth n j r : ℕ} {x : Distribution}
-    (deep : depth ≤ D) (given : Ready q R I depth n j r) (pos : depth ≡ 0 → ⊥) (dealt : x ≡ distribution (level_in t (depth - 1)).cum_max_nrec n) where
+-- Before the loop: what is distributed, by a table that is right below the node, and the first child.
+module _ {q : Request} {t : NodeInfo} {R I depth n j r : ℕ} {x : Distribution}
+    (right : RightBelow q t depth) (given : Ready q R I depth n j r) (pos : depth ≡ 0 → ⊥) (dealt : x ≡ distribution (level_in t (depth - 1)).cum_max_nrec n) where
   by_capacity : x ≡ distribution (capacities q (depth - 1)) n
-  by_capacity =
-      let within : depth - 1 ≤ D = omega arith in
-      dealt ∙ ap (λ c. distribution c n) (subtree_entry q.geometry D t table (depth - 1) within top)
+  by_capacity = dealt ∙ ap (λ c. distribution c n) (right.caps (depth - 1) (omega (arith, pos)))
 
   pub now_distributed : Split q R I depth n j r x.kept x.base x.extra
   now_distributed =

@@ -1,7 +1,9 @@
 -- The subtrees of a planned tree, as the function that writes one goes by them.
 use Rattle.std.specs.Prelude.{◌≡◌, false, List, ℕ, ◌+◌, ◌*◌, ◌^◌, ◌≤◌, ◌<◌}
 use Rattle.numbers.specs.Places.{stored}
-use Rattle.node_info.specs.Capacity.{subtree_capacity}
+use Rattle.node_info.specs.Capacity.{subtree_capacity, count_width, total_width}
+use Rattle.node_info.specs.Table.{level_in}
+use Rattle.node_info.specs.declared.NodeInfo.{NodeInfo}
 use Rattle.plan.specs.Tree.{Tree, count, size, nodes, Everywhere}
 use Rattle.plan.specs.Planned.{plan_tree, thin}
 use Rattle.format.specs.Bytes.{image}
@@ -23,6 +25,12 @@ subtree_nodes q d n = nodes d (subtree q d n)
 
 unfoldable pub subtree_image : Request → List ℕ → ℕ → ℕ → ℕ → ℕ → List ℕ
 subtree_image q recs d n j r = image q recs d (subtree q d n) j r
+
+-- A table that is right of every level below level d.
+pub record RightBelow (q : Request) (t : NodeInfo) (d : ℕ) : Type 0 where
+  pub counts : t.max_nrec_size ≡ count_width q.geometry
+  pub caps : (u : ℕ) → u < d → (level_in t u).cum_max_nrec ≡ capacities q u
+  pub widths : (u : ℕ) → u < d → (level_in t u).cum_max_nrec_size ≡ total_width q.geometry u
 
 -- A subtree that can be written: its depth is 32 at most, its records are among 2^24, it is a leaf or not too thin, its
 -- nodes fit, its records are in the list, its nodes in the image, and its addresses below 2^64.

@@ -4,9 +4,7 @@
 ghost use Rattle.std.specs.Prelude.{◌≡◌, ◌+◌, ◌*◌, ◌^◌, ◌≤◌, ◌<◌, length, take, ltb};
 ghost use Rattle.numbers.specs.Numbers.{pick};
 ghost use Rattle.numbers.specs.Places.{stored, joined, filled_to};
-ghost use Rattle.node_info.specs.Table.{info_at};
 ghost use Rattle.format.specs.Fields.{leaf_fields};
-ghost use Rattle.format.specs.Request.{depth_of};
 ghost use Rattle.btree_v2_write.specs.Filled.{Filled};
 
 use crate::filling::Filling;
@@ -14,13 +12,12 @@ use format::Request;
 use node_info::{ChildPointer, NodeInfo};
 use plan::Distribution;
 
-// What all nodes of a tree share: the numbers of the write, the list of its records, and the table of its depth.
+// What all nodes of a tree share: the numbers of the write, the list of its records, and the table of its levels.
 #[derive(Clone, Copy)]
 pub(crate) struct Writing<'a> {
     pub(crate) request: Request,
     pub(crate) records: &'a [u8],
     pub(crate) info: &'a NodeInfo,
-    ghost table: { info.now ≡ info_at request.geometry (depth_of request) },
 }
 
 // A place in a writing: the nodes and the records before it, which are the numbers of the next node and record.
@@ -39,7 +36,7 @@ pub(crate) struct Child {
 }
 
 // An internal node in numbers: its records and those of its children; a child of the larger share and one of the smaller; the bytes of a pointer's
-// fields; and the place of the first node and record below it.
+// fields; and the place of the first node and record below it. The type has no invariants: the laws of one pass are of every node.
 #[derive(Clone, Copy)]
 pub(crate) struct InternalNode {
     pub(crate) distributed: Distribution,

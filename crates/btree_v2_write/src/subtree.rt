@@ -1,8 +1,7 @@
 // Writing subtrees, node after node: the children of a node first, and then the node.
 
 ghost use Rattle.std.specs.Prelude.{◌≡◌, ◌+◌, ◌^◌, ◌≤◌, ◌<◌, length};
-ghost use Rattle.format.specs.Request.{depth_of};
-ghost use Rattle.btree_v2_write.specs.Subtrees.{after, Ready, SubtreeWritten};
+ghost use Rattle.btree_v2_write.specs.Subtrees.{after, RightBelow, Ready, SubtreeWritten};
 
 use crate::filling::WHOLE;
 use crate::node;
@@ -24,11 +23,10 @@ impl Place {
 impl Writing<'_> {
     // Writes the nodes of a subtree of n records from this place on, and gives the subtree in numbers. The children go first, one after another,
     // and then the root, whose pointers are made of what the children's calls returned: the first child is one of the larger size, where there
-    // is one, and the last one of the smaller. The place reached goes on by what each returned. The table has the levels of a subtree that is no
-    // deeper than the tree.
+    // is one, and the last one of the smaller. The place reached goes on by what each returned. The table is asked of the levels below the root's.
     pub(crate) fn write_subtree(&self, image: &mut [u8], depth: usize, n: u64, at: Place) -> Child
         requires sized { 0 < self.now.request.geometry.record_size }
-        requires deep { depth ≤ depth_of self.now.request }
+        requires table { RightBelow self.now.request self.now.info.now depth }
         requires ready { Ready self.now.request (length self.now.records.now) (length image.old) depth n at.nodes at.records }
         ensures { SubtreeWritten self.now.request self.now.records.now image.old image.new depth n at.nodes at.records result }
     {

@@ -4,8 +4,7 @@ use Prim.Native.Nat.{ℕ, ◌+◌, ◌<◌}
 use mathlib.Core.Path.{◌≡◌}
 use native.Mathlib.Omega.{arith}
 use borrow.Author.Rules.{rules}
-use Rattle.plan.proofs.Depths.{depth_le}
-use Rattle.btree_v2_write.proofs.Subtrees.{leaf_room, leaf_fits, whole_node, leaf_done, first_asked, now_distributed, first_next_fits, first_after_fits}
+use Rattle.btree_v2_write.proofs.Subtrees.{leaf_room, leaf_fits, whole_node, leaf_done, right_further, first_asked, now_distributed, first_next_fits, first_after_fits}
 use Rattle.btree_v2_write.proofs.Subtrees.{KidsLeft, loop_start, kid_ready, kid_next_fits, kid_after_fits, loop_turn, next_fits, next_least, pointer_is, root_fits, root_room, root_done}
 use Rattle.btree_v2_write.proofs.node.Writing.+write_subtree.Goals as goal
 use Rattle.btree_v2_write.proofs.node.Writing.+write_subtree.Goals.{Left-loop-i, else-loop-i-test, then-loop-i-test+else-i-i-end}
@@ -20,23 +19,23 @@ returns-then-depth-eq0 t c = search (leaf_done, whole_node)
 
 pub write_subtree-large-requires : goal.write_subtree-large-requires
 write_subtree-large-requires t c =
-    let first = first_asked (depth_le _ _) c.args.self.now.table c.requires.deep c.requires.ready c.if-depth-eq0.false c.distribute-distributed.ensures _ c.share.ensures in
-    (omega arith, (c.requires.sized, (omega arith, first)))
+    let first = first_asked c.requires.table c.requires.ready c.if-depth-eq0.false c.distribute-distributed.ensures _ c.share.ensures in
+    (omega arith, (c.requires.sized, (right_further c.requires.table (omega arith), first)))
 
 pub after-next-requires : goal.after-next-requires
 after-next-requires t c =
-    let distributed = now_distributed (depth_le _ _) c.args.self.now.table c.requires.deep c.requires.ready c.if-depth-eq0.false c.distribute-distributed.ensures in
+    let distributed = now_distributed c.requires.table c.requires.ready c.if-depth-eq0.false c.distribute-distributed.ensures in
     (first_next_fits distributed c.share.ensures c.write_subtree-large.ensures, first_after_fits distributed c.share.ensures c.write_subtree-large.ensures)
 
 pub loop-i-init : goal.loop-i-init
 loop-i-init t c =
-    let distributed = now_distributed (depth_le _ _) c.args.self.now.table c.requires.deep c.requires.ready c.if-depth-eq0.false c.distribute-distributed.ensures in
+    let distributed = now_distributed c.requires.table c.requires.ready c.if-depth-eq0.false c.distribute-distributed.ensures in
     rw c.after-next.ensures (loop_start distributed c.share.ensures c.write_subtree-large.ensures _ c.write_subtree-large.auto.image)
 
 pub write_subtree-small-requires : goal.write_subtree-small-requires
 write_subtree-small-requires t c =
     let kid = kid_ready c.loop-i.invariant c.loop-i-test.true c.share-in-loop-i.ensures in
-    (omega arith, (c.requires.sized, (omega arith, kid)))
+    (omega arith, (c.requires.sized, (right_further c.requires.table (omega arith), kid)))
 
 pub after-next-requires-in-loop-i : goal.after-next-requires-in-loop-i
 after-next-requires-in-loop-i t c =
@@ -71,7 +70,7 @@ past k = omega arith
 pub write_internal-requires : goal.write_internal-requires
 write_internal-requires t c =
     let inv = all_written t (goal.at.write_internal-requires t c).Left-loop-i in
-    record { numbers = root_fits inv (past _) _ (pointer_is inv.distributed (depth_le _ _) c.args.self.now.table c.requires.deep c.pointer_to.ensures) c.requires.sized; room = root_room inv (past _) }
+    record { numbers = root_fits inv (past _) _ (pointer_is inv.distributed c.requires.table c.pointer_to.ensures) c.requires.sized; room = root_room inv (past _) }
 
 pub overflow_add-result : goal.overflow_add-result
 overflow_add-result t c = omega (arith, next_fits (all_written t (goal.at.overflow_add-result t c).Left-loop-i) (past _))
@@ -84,5 +83,5 @@ overflow_sub-result t c =
 pub returns : goal.returns
 returns t c =
     let inv = all_written t (goal.at.returns t c).Left-loop-i in
-    root_done inv (past _) _ (pointer_is inv.distributed (depth_le _ _) c.args.self.now.table c.requires.deep c.pointer_to.ensures) c.share.ensures
+    root_done inv (past _) _ (pointer_is inv.distributed c.requires.table c.pointer_to.ensures) c.share.ensures
     c.write_subtree-large.auto.image c.write_subtree-large.ensures whole_node c.write_internal.ensures
