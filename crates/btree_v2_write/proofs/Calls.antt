@@ -92,7 +92,7 @@ module _ {q : Request} {laid : PlanAndTable} {recs hdr img : List ℕ} (a : Acce
   pub sized : 0 < q.geometry.record_size
   sized = omega (arith, known.0.pass)
 
-  -- The table is right below the root.
+  -- The table is right of the levels below the root.
   pub table_right : RightBelow q laid.info p.depth
   table_right = right_below a.table (depth_le q.record_count q.geometry) (omega (arith, depth_is))
 

@@ -32,7 +32,7 @@ use Rattle.btree_v2_write.specs.declared.filling.Filling.{Filling}
 use Rattle.btree_v2_write.specs.declared.node.Child.{Child}
 use Rattle.btree_v2_write.specs.declared.node.InternalNode.{InternalNode}
 use Rattle.btree_v2_write.specs.Filled.{Filled, start}
-use Rattle.btree_v2_write.specs.Shares.{two_sizes, with_one, records_after, pointer_to, pointers_to, nodes_of_all, PointerFits, PointersFit, InternalNodeFits, child_shares, children_of, content_fields, internal_node_fields}
+use Rattle.btree_v2_write.specs.Shares.{two_sizes, with_one, records_after, pointer_to, pointers_to, nodes_of_all, pointer_of, PointerFits, PointersFit, InternalNodeFits, child_shares, children_of, content_fields, internal_node_fields}
 use Rattle.btree_v2_write.proofs.Puts.{filled_nothing, filled_then, filled_long, front_place, node_filled}
 
 -- The children from child i on: child i and those after it.
@@ -164,10 +164,10 @@ module _ (q : Request) (x₀ : InternalNode) (front : Filling) where
   last = x₀.distributed.kept
 
   abbrev width : ℕ
-  width = pointer_size x₀.pointer
+  width = pointer_size (pointer_of q x₀)
 
   abbrev pointers : List Child → ℕ → List (List ℕ)
-  pointers = pointers_to q x₀.pointer
+  pointers = pointers_to q (pointer_of q x₀)
 
   abbrev children_from : ℕ → List Child
   children_from i = from (last + 1) x₀.distributed.extra x₀.large x₀.small i
@@ -199,7 +199,7 @@ module _ (q : Request) (x₀ : InternalNode) (front : Filling) where
           let s : next + x.nodes ≤ x₀.first.nodes + nodes_of_all (children_of x₀) = omega arith in
           omega (arith, mul-le-mul_right q.geometry.node_size s, fits.short)
 
-      pub pointer_fits : PointerFits q (length to.node.now) to.at x x₀.pointer next
+      pub pointer_fits : PointerFits q (length to.node.now) to.at x (pointer_of q x₀) next
       pointer_fits =
           record {
             bytes = pointer_room;
@@ -211,10 +211,10 @@ module _ (q : Request) (x₀ : InternalNode) (front : Filling) where
       pub next_fits : Fits w64 (next + x.nodes)
       next_fits = omega (arith, le-mul_of_pos_right (next + x.nodes) fits.size, pointer_short)
 
-      pub pointers_turn : {to' : Filling} → Filled to (pointer_to q x₀.pointer x next) to' → PointersLeft to' (next + x.nodes) (i + 1)
+      pub pointers_turn : {to' : Filling} → Filled to (pointer_to q (pointer_of q x₀) x next) to' → PointersLeft to' (next + x.nodes) (i + 1)
       unfolding pointers_to
       pointers_turn {to'} f =
-          let many = pointer_length q x₀.pointer x next in
+          let many = pointer_length q (pointer_of q x₀) x next in
           record {
             place = rw (add-one, suc-mul) (omega (arith, f.place, many, inv.place));
             reached = next_reached;
@@ -266,12 +266,12 @@ module _ {q : Request} (recs : List ℕ) {x : InternalNode} (fits : InternalNode
   own = records_after q.geometry.record_size recs (child_shares x) x.first.records
 
   abbrev ptrs : List (List ℕ)
-  ptrs = pointers_to q x.pointer (children_of x) x.first.nodes
+  ptrs = pointers_to q (pointer_of q x) (children_of x) x.first.nodes
 
   own_long : length (joined own) ≡ x.distributed.kept * q.geometry.record_size
   own_long = rw (records_long q.geometry.record_size recs (child_shares x) x.first.records fits.in_list, length_two)
 
-  contents_long : length (joined (content_fields q recs x)) ≡ x.distributed.kept * q.geometry.record_size + (x.distributed.kept + 1) * pointer_size x.pointer
+  contents_long : length (joined (content_fields q recs x)) ≡ x.distributed.kept * q.geometry.record_size + (x.distributed.kept + 1) * pointer_size (pointer_of q x)
   unfolding content_fields
   contents_long = rw (joined_append, length-append, own_long, pointers_long, length_two)
 

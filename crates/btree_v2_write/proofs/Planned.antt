@@ -28,7 +28,7 @@ use Rattle.format.proofs.Fields.{internal_joined, internal_final_then_lent}
 use Rattle.format.specs.declared.Request.{Request}
 use Rattle.btree_v2_write.specs.declared.node.Child.{Child}
 use Rattle.btree_v2_write.specs.declared.node.InternalNode.{InternalNode}
-use Rattle.btree_v2_write.specs.Shares.{two_sizes, with_one, records_after, pointer_to, pointers_to, nodes_of_all, content_fields, internal_node_fields, child_shares, children_of}
+use Rattle.btree_v2_write.specs.Shares.{two_sizes, with_one, records_after, pointer_to, pointers_to, nodes_of_all, pointer_of, content_fields, internal_node_fields, child_shares, children_of}
 use Rattle.btree_v2_write.specs.Subtrees.{capacities, subtree, subtree_nodes, subtree_image}
 
 -- The two sizes as runs.
@@ -178,7 +178,7 @@ module _ (q : Request) (recs : List ℕ) (d n : ℕ) (thick : thin (capacities q
     pub extra : x.distributed.extra ≡ extra cap n
     pub large : 0 < x.distributed.extra → x.large ≡ child_at q d (share cap n + 1)
     pub small : x.small ≡ child_at q d (share cap n)
-    pub pointer : x.pointer ≡ child_pointer q d
+    pub pointer : pointer_of q x ≡ child_pointer q d
 
   module _ (x : InternalNode) (is : Numbers x) where
     shares_are : child_shares x ≡ front (children cap n)
@@ -195,7 +195,7 @@ module _ (q : Request) (recs : List ℕ) (d n : ℕ) (thick : thin (capacities q
     unfolding internal_node_fields content_fields internal_fields
     fields_are =
         let own = records_kids q recs d (children cap n) (children_some cap n) sized x.first.records in
-        let below = pointers_kids q recs d x.pointer is.pointer (children cap n) (children_some cap n) x.first.nodes in
+        let below = pointers_kids q recs d (pointer_of q x) is.pointer (children cap n) (children_some cap n) x.first.nodes in
         rw (shares_are, children_are, own, below)
 
     -- So what document 02 says of a node that is being filled holds of what the code puts.

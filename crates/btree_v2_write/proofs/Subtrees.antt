@@ -19,7 +19,8 @@ use Rattle.numbers.specs.Places.{stored, joined}
 use Rattle.numbers.proofs.Lists.{stored_nil, stored_append, length_stored, drop_stored_end}
 use Rattle.node_info.specs.declared.NodeInfo.{NodeInfo}
 use Rattle.node_info.specs.declared.ChildPointer.{ChildPointer}
-use Rattle.node_info.specs.Table.{info_at, level_in, pointer_in}
+use Rattle.node_info.specs.Capacity.{total_width}
+use Rattle.node_info.specs.Table.{info_at, level_in}
 use Rattle.node_info.proofs.Columns.{subtree_entry, total_entry, pointer_entry}
 use Rattle.plan.specs.Tree.{Tree, sum_kids, between, nodes, below, count, size, AllKids, Everywhere}
 use Rattle.plan.specs.declared.Distribution.{Distribution}
@@ -36,13 +37,13 @@ use Rattle.format.proofs.Lengths.{length_image, length_children}
 use Rattle.format.specs.declared.Request.{Request}
 use Rattle.btree_v2_write.specs.declared.node.Child.{Child}
 use Rattle.btree_v2_write.specs.declared.node.InternalNode.{InternalNode}
-use Rattle.btree_v2_write.specs.Shares.{two_sizes, with_one, nodes_of_all, child_shares, children_of, internal_node_fields, InternalNodeFits}
+use Rattle.btree_v2_write.specs.Shares.{two_sizes, with_one, nodes_of_all, pointer_of, child_shares, children_of, internal_node_fields, InternalNodeFits}
 use Rattle.btree_v2_write.specs.Subtrees.{capacities, subtree, subtree_nodes, subtree_image, RightBelow, Ready, ChildOf, SubtreeWritten}
 use Rattle.btree_v2_write.proofs.Internal.{from, from_first, from_step, from_end, number_fits, internal_few}
 use Rattle.btree_v2_write.proofs.Planned.{child_pointer, two_children, each_child, one_each, images, images_kids, sized, Numbers, nodes_node, nodes_are, records_within, image_is}
 
--- A table of a depth is right below it and below every level that is not above it.
-pub right_below : {q : Request} {t : NodeInfo} {D d : ℕ} → t ≡ info_at q.geometry D → D ≤ 32 → d ≤ D → RightBelow q t d
+-- A table of depth D is right of its levels, and so of the levels below level D + 1.
+pub right_below : {q : Request} {t : NodeInfo} {D d : ℕ} → t ≡ info_at q.geometry D → D ≤ 32 → d ≤ D + 1 → RightBelow q t d
 right_below {q} {t} {D} {d} table top deep =
     record {
       counts = ap (λ (p : ChildPointer). p.count_size) (pointer_entry q.geometry D t table 0 (omega arith) top 0);
@@ -50,6 +51,7 @@ right_below {q} {t} {D} {d} table top deep =
       widths = λ u h. total_entry q.geometry D t table u (omega arith) top;
     }
 
+-- What is right of more levels is right of fewer.
 pub right_further : {q : Request} {t : NodeInfo} {d e : ℕ} → RightBelow q t d → e ≤ d → RightBelow q t e
 right_further right within =
     record { counts = right.counts; caps = λ u h. right.caps u (omega arith); widths = λ u h. right.widths u (omega arith) }
@@ -209,10 +211,6 @@ module _ {q : Request} {R I depth n j r k b x : ℕ} (distributed : Split q R I 
   kept_small : k < 2 ^ 24
   kept_small = omega (arith, distributed.kept, kept_few ready)
 
-  -- The pointers are as a table says that is right below the node.
-  pub pointer_is : {t : NodeInfo} → RightBelow q t depth → {p : ChildPointer} → p ≡ pointer_in t q.geometry.offset_size under → p ≡ child_pointer q under
-  pointer_is right e = rw (e, right.counts, right.widths under (omega (arith, distributed.pos))) refl
-
   extra_few : x ≤ k
   extra_few = omega (arith, distributed.extra, distributed.kept, extra_lt (capacities q under) n)
 
@@ -260,17 +258,18 @@ some_nodes : {d : ℕ} {t : Tree d} {x : Child} → ChildOf d t x → 0 < x.node
 unfolding nodes
 some_nodes y = omega (arith, y.nodes)
 
-abbrev internal_node_at : ℕ → ℕ → ℕ → Child → Child → ChildPointer → ℕ → ℕ → InternalNode
-internal_node_at k b x large small p j r =
+abbrev internal_node_at : ℕ → ℕ → ℕ → Child → Child → ℕ → ℕ → ℕ → ℕ → InternalNode
+internal_node_at k b x large small w t j r =
     record {
       distributed = record { kept = k; base = b; extra = x };
       large = large;
       small = small;
-      pointer = p;
+      count_size = w;
+      total_size = t;
       first = record { nodes = j; records = r };
     }
 
--- Before the loop: what is distributed, by a table that is right below the node, and the first child.
+-- Before the loop: what is distributed, by a table that is right of the levels below the node, and the first child.
 module _ {q : Request} {t : NodeInfo} {R I depth n j r : ℕ} {x : Distribution}
     (right : RightBelow q t depth) (given : Ready q R I depth n j r) (pos : depth ≡ 0 → ⊥) (dealt : x ≡ distribution (level_in t (depth - 1)).cum_max_nrec n) where
   by_capacity : x ≡ distribution (capacities q (depth - 1)) n
@@ -468,9 +467,12 @@ module _ {q : Request} {recs : List ℕ} {depth n j r k b x : ℕ} {o₁ o : Lis
           drop_after o₀ o (j * q.geometry.node_size) whole children_done place (omega (arith, (ready inv.distributed).room, same))
 
     -- The root, with pointers as the table says.
-    module _ (p : ChildPointer) (is : p ≡ child_pointer q d) where
+    module _ {t : NodeInfo} (right : RightBelow q t depth) where
       abbrev internal : InternalNode
-      internal = internal_node_at k b x large small p j r
+      internal = internal_node_at k b x large small t.max_nrec_size (level_in t d).cum_max_nrec_size j r
+
+      width : (level_in t d).cum_max_nrec_size ≡ total_width q.geometry d
+      width = right.widths d (omega (arith, inv.distributed.pos))
 
       numbers : Numbers q recs d n (thick (ready inv.distributed)) internal
       numbers =
@@ -482,7 +484,7 @@ module _ {q : Request} {recs : List ℕ} {depth n j r k b x : ℕ} {o₁ o : Lis
             extra = inv.distributed.extra;
             large = λ h. child_is (rw (lt-ltb 0 x h, inv.distributed.base) at inv.of_first);
             small = child_is last;
-            pointer = is;
+            pointer = rw (right.counts, width) refl;
           }
 
       pub root_fits : 0 < q.geometry.record_size → InternalNodeFits q (length recs) internal
@@ -496,7 +498,7 @@ module _ {q : Request} {recs : List ℕ} {depth n j r k b x : ℕ} {o₁ o : Lis
           record {
             size = size;
             few = base_few inv.distributed;
-            bytes = rw (is, inv.distributed.kept) (omega (arith, bytes));
+            bytes = rw (right.counts, width, inv.distributed.kept) (omega (arith, bytes));
             in_list = le_trans (mul-le-mul_right q.geometry.record_size within) node.in_list;
             some = (some_nodes inv.of_first, some_nodes last_returned);
             short = omega (arith, mul-le-mul_right q.geometry.node_size ends, node.short);

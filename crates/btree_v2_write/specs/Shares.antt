@@ -46,6 +46,10 @@ child_shares x = two_sizes x.distributed.kept x.distributed.extra (x.distributed
 abbrev pub children_of : InternalNode → List Child
 children_of x = two_sizes (x.distributed.kept + 1) x.distributed.extra x.large x.small
 
+-- The bytes of the fields of a node's pointers.
+abbrev pub pointer_of : Request → InternalNode → ChildPointer
+pointer_of q x = record { offset_size = q.geometry.offset_size; count_size = x.count_size; total_size = x.total_size }
+
 -- The pointer to child x fits at `at` of a node of this length, and the address that is in it fits.
 pub record PointerFits (q : Request) (length at : ℕ) (x : Child) (p : ChildPointer) (j : ℕ) : Type 0 where
   pub bytes : at + pointer_size p ≤ length
@@ -55,7 +59,7 @@ pub record PointerFits (q : Request) (length at : ℕ) (x : Child) (p : ChildPoi
 
 -- So do the pointers to all children of x.
 pub record PointersFit (q : Request) (length at : ℕ) (x : InternalNode) : Type 0 where
-  pub bytes : at + (x.distributed.kept + 1) * pointer_size x.pointer ≤ length
+  pub bytes : at + (x.distributed.kept + 1) * pointer_size (pointer_of q x) ≤ length
   pub large : 0 < x.large.nodes
   pub small : 0 < x.small.nodes
   pub size : 0 < q.geometry.node_size
@@ -65,7 +69,7 @@ pub record PointersFit (q : Request) (length at : ℕ) (x : InternalNode) : Type
 unfoldable pub content_fields : Request → List ℕ → InternalNode → List (List ℕ)
 content_fields q recs x =
     records_after q.geometry.record_size recs (child_shares x) x.first.records
-    ++ pointers_to q x.pointer (children_of x) x.first.nodes
+    ++ pointers_to q (pointer_of q x) (children_of x) x.first.nodes
 
 -- All its fields.
 unfoldable pub internal_node_fields : Request → List ℕ → InternalNode → List (List ℕ)
@@ -76,7 +80,7 @@ internal_node_fields q recs x =
 pub record InternalNodeFits (q : Request) (records : ℕ) (x : InternalNode) : Type 0 where
   pub size : 0 < q.geometry.record_size
   pub few : x.distributed.base < 2 ^ 32
-  pub bytes : 10 + (x.distributed.kept * q.geometry.record_size + (x.distributed.kept + 1) * pointer_size x.pointer) ≤ q.geometry.node_size
+  pub bytes : 10 + (x.distributed.kept * q.geometry.record_size + (x.distributed.kept + 1) * pointer_size (pointer_of q x)) ≤ q.geometry.node_size
   pub in_list : (x.first.records + with_one (child_shares x)) * q.geometry.record_size ≤ records
   pub some : (0 < x.large.nodes) × (0 < x.small.nodes)
   pub short : q.start + (x.first.nodes + nodes_of_all (children_of x)) * q.geometry.node_size < 2 ^ 64

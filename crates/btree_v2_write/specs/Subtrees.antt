@@ -26,7 +26,7 @@ subtree_nodes q d n = nodes d (subtree q d n)
 unfoldable pub subtree_image : Request → List ℕ → ℕ → ℕ → ℕ → ℕ → List ℕ
 subtree_image q recs d n j r = image q recs d (subtree q d n) j r
 
--- A table that is right of every level below level d.
+-- A table that is right of the levels below level d: its count width, and of each level the capacity and the width of totals.
 pub record RightBelow (q : Request) (t : NodeInfo) (d : ℕ) : Type 0 where
   pub counts : t.max_nrec_size ≡ count_width q.geometry
   pub caps : (u : ℕ) → u < d → (level_in t u).cum_max_nrec ≡ capacities q u

@@ -9,7 +9,7 @@ ghost use Rattle.btree_v2_write.specs.Filled.{Filled};
 
 use crate::filling::Filling;
 use format::Request;
-use node_info::{ChildPointer, NodeInfo};
+use node_info::NodeInfo;
 use plan::Distribution;
 
 // What all nodes of a tree share: the numbers of the write, the list of its records, and the table of its levels.
@@ -35,14 +35,16 @@ pub(crate) struct Child {
     pub(crate) nodes: usize,
 }
 
-// An internal node in numbers: its records and those of its children; a child of the larger share and one of the smaller; the bytes of a pointer's
-// fields; and the place of the first node and record below it. The type has no invariants: the laws of one pass are of every node.
+// An internal node in numbers: its records and those of its children; a child of the larger share and one of the smaller; the bytes of a record
+// count and of a total in a pointer; and the place of the first node and record below it. Nothing bounds these numbers but clauses of functions,
+// since the contracts of filling are of every node.
 #[derive(Clone, Copy)]
 pub(crate) struct InternalNode {
     pub(crate) distributed: Distribution,
     pub(crate) large: Child,
     pub(crate) small: Child,
-    pub(crate) pointer: ChildPointer,
+    pub(crate) count_size: usize,
+    pub(crate) total_size: usize,
     pub(crate) first: Place,
 }
 
@@ -56,7 +58,7 @@ pub(crate) fn share(distributed: &Distribution, i: u64) -> u64
 }
 
 impl Writing<'_> {
-    ghost use Rattle.btree_v2_write.specs.Shares.{child_shares, with_one, records_after, pointer_to, pointers_to, children_of, PointerFits, PointersFit, InternalNodeFits, internal_node_fields};
+    ghost use Rattle.btree_v2_write.specs.Shares.{child_shares, with_one, records_after, pointer_to, pointers_to, children_of, pointer_of, PointerFits, PointersFit, InternalNodeFits, internal_node_fields};
 
     // Fills a leaf of n records, the first of them record r: its first `budget` fields.
     fn fill_leaf(&self, node: &mut [u8], n: usize, r: usize, budget: usize)
@@ -105,29 +107,29 @@ impl Writing<'_> {
         self.request.start + (j as u64) * (self.request.geometry.node_size as u64)
     }
 
-    // Puts address, record count and total of the pointer to a child as the next fields, those that may still be put; the child's first node is
-    // node j.
-    fn put_pointer(&self, filling: &mut Filling<'_>, child: Child, pointer: ChildPointer, j: usize)
-        requires { PointerFits self.now.request (length filling.old.node.now) filling.old.at child pointer j }
-        ensures { Filled filling.old (pointer_to self.now.request pointer child j) filling.new }
+    // Puts address, record count and total of a node's pointer to a child as the next fields, those that may still be put; the child's first node
+    // is node j.
+    fn put_pointer(&self, filling: &mut Filling<'_>, internal: &InternalNode, child: Child, j: usize)
+        requires { PointerFits self.now.request (length filling.old.node.now) filling.old.at child (pointer_of self.now.request internal.now) j }
+        ensures { Filled filling.old (pointer_to self.now.request (pointer_of self.now.request internal.now) child j) filling.new }
     {
         let address = self.node_address(j + (child.nodes - 1));
-        filling.put_number(address, pointer.offset_size as usize);
-        filling.put_number(child.records, pointer.count_size as usize);
-        filling.put_number(child.total, pointer.total_size as usize);
+        filling.put_number(address, self.request.geometry.offset_size as usize);
+        filling.put_number(child.records, internal.count_size);
+        filling.put_number(child.total, internal.total_size);
     }
 
     // Puts the pointers to a node's children as the next fields, those that may still be put.
     fn put_pointers(&self, filling: &mut Filling<'_>, internal: &InternalNode)
         requires { PointersFit self.now.request (length filling.old.node.now) filling.old.at internal.now }
-        ensures { Filled filling.old (pointers_to self.now.request internal.now.pointer (children_of internal.now) internal.now.first.nodes) filling.new }
+        ensures { Filled filling.old (pointers_to self.now.request (pointer_of self.now.request internal.now) (children_of internal.now) internal.now.first.nodes) filling.new }
     {
         let mut next = internal.first.nodes;
         for i in 0..=internal.distributed.kept {
             let child = internal
                 .distributed
                 .of_child(i, internal.large, internal.small);
-            self.put_pointer(filling, child, internal.pointer, next);
+            self.put_pointer(filling, internal, child, next);
             next += child.nodes;
         }
     }

@@ -23,7 +23,8 @@ impl Place {
 impl Writing<'_> {
     // Writes the nodes of a subtree of n records from this place on, and gives the subtree in numbers. The children go first, one after another,
     // and then the root, whose pointers are made of what the children's calls returned: the first child is one of the larger size, where there
-    // is one, and the last one of the smaller. The place reached goes on by what each returned. The table is asked of the levels below the root's.
+    // is one, and the last one of the smaller. The place reached goes on by what each returned. Of the table it asks that it is right of the levels
+    // below the root's.
     pub(crate) fn write_subtree(&self, image: &mut [u8], depth: usize, n: u64, at: Place) -> Child
         requires sized { 0 < self.now.request.geometry.record_size }
         requires table { RightBelow self.now.request self.now.info.now depth }
@@ -51,9 +52,8 @@ impl Writing<'_> {
             distributed,
             large,
             small,
-            pointer: self
-                .info
-                .pointer_to(self.request.geometry.offset_size, under as u16),
+            count_size: self.info.max_nrec_size as usize,
+            total_size: self.info.levels[under].cum_max_nrec_size as usize,
             first: at,
         };
         self.write_internal(image, &internal, next.nodes, WHOLE);

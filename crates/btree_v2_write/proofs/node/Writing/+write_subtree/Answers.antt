@@ -5,7 +5,7 @@ use mathlib.Core.Path.{◌≡◌}
 use native.Mathlib.Omega.{arith}
 use borrow.Author.Rules.{rules}
 use Rattle.btree_v2_write.proofs.Subtrees.{leaf_room, leaf_fits, whole_node, leaf_done, right_further, first_asked, now_distributed, first_next_fits, first_after_fits}
-use Rattle.btree_v2_write.proofs.Subtrees.{KidsLeft, loop_start, kid_ready, kid_next_fits, kid_after_fits, loop_turn, next_fits, next_least, pointer_is, root_fits, root_room, root_done}
+use Rattle.btree_v2_write.proofs.Subtrees.{KidsLeft, loop_start, kid_ready, kid_next_fits, kid_after_fits, loop_turn, next_fits, next_least, root_fits, root_room, root_done}
 use Rattle.btree_v2_write.proofs.node.Writing.+write_subtree.Goals as goal
 use Rattle.btree_v2_write.proofs.node.Writing.+write_subtree.Goals.{Left-loop-i, else-loop-i-test, then-loop-i-test+else-i-i-end}
 
@@ -70,7 +70,7 @@ past k = omega arith
 pub write_internal-requires : goal.write_internal-requires
 write_internal-requires t c =
     let inv = all_written t (goal.at.write_internal-requires t c).Left-loop-i in
-    record { numbers = root_fits inv (past _) _ (pointer_is inv.distributed c.requires.table c.pointer_to.ensures) c.requires.sized; room = root_room inv (past _) }
+    record { numbers = root_fits inv (past _) c.requires.table c.requires.sized; room = root_room inv (past _) }
 
 pub overflow_add-result : goal.overflow_add-result
 overflow_add-result t c = omega (arith, next_fits (all_written t (goal.at.overflow_add-result t c).Left-loop-i) (past _))
@@ -83,5 +83,5 @@ overflow_sub-result t c =
 pub returns : goal.returns
 returns t c =
     let inv = all_written t (goal.at.returns t c).Left-loop-i in
-    root_done inv (past _) _ (pointer_is inv.distributed c.requires.table c.pointer_to.ensures) c.share.ensures
+    root_done inv (past _) c.requires.table c.share.ensures
     c.write_subtree-large.auto.image c.write_subtree-large.ensures whole_node c.write_internal.ensures
