@@ -37,10 +37,10 @@ use Rattle.format.proofs.Lengths.{length_image, length_children}
 use Rattle.format.specs.declared.Request.{Request}
 use Rattle.btree_v2_write.specs.declared.node.Child.{Child}
 use Rattle.btree_v2_write.specs.declared.node.InternalNode.{InternalNode}
-use Rattle.btree_v2_write.specs.Shares.{two_sizes, with_one, nodes_of_all, pointer_of, child_shares, children_of, internal_node_fields, InternalNodeFits}
+use Rattle.btree_v2_write.specs.Shares.{two_sizes, with_one, nodes_of_all, child_shares, children_of, internal_node_fields, InternalNodeFits}
 use Rattle.btree_v2_write.specs.Subtrees.{capacities, subtree, subtree_nodes, subtree_image, RightBelow, Ready, ChildOf, SubtreeWritten}
 use Rattle.btree_v2_write.proofs.Internal.{from, from_first, from_step, from_end, number_fits, internal_few}
-use Rattle.btree_v2_write.proofs.Planned.{child_pointer, two_children, each_child, one_each, images, images_kids, sized, Numbers, nodes_node, nodes_are, records_within, image_is}
+use Rattle.btree_v2_write.proofs.Planned.{two_children, each_child, one_each, images, images_kids, sized, Numbers, nodes_node, nodes_are, records_within, image_is}
 
 -- A table of depth D is right of its levels, and so of the levels below level D + 1.
 pub right_below : {q : Request} {t : NodeInfo} {D d : ℕ} → t ≡ info_at q.geometry D → D ≤ 32 → d ≤ D + 1 → RightBelow q t d

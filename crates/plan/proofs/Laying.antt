@@ -9,7 +9,8 @@ use lib.Dec.{ltb, eqb}
 use borrow.Author.Tests.{not-true, ne_eqb}
 use mir.Syntax.{w64}
 use mir.Val.{Fits}
-use Rattle.refusal.specs.Answer.{accepted, refused}
+use Rattle.refusal.specs.Answer.{accepted, refused, refusal_of}
+use Rattle.refusal.specs.declared.Refusal.{Refusal}
 use Rattle.node_info.specs.Capacity.{subtree_capacity}
 use Rattle.node_info.proofs.Columns.{levels_length, subtree_entry}
 use lib.ListN.{length, take, length-take}
@@ -17,12 +18,12 @@ use lib.Seq.{get_or-take}
 use Rattle.node_info.specs.Table.{no_level}
 use Rattle.node_info.specs.declared.NodeInfo.{NodeInfo}
 use Rattle.node_info.specs.declared.Level.{Level}
-use Rattle.plan.specs.Steps.{Passed, Found, capacity_in, Countable, Counted}
+use Rattle.plan.specs.Steps.{Passed, Found, HoldsNone, capacity_in, Countable, Counted}
 use Rattle.std.specs.Prelude.{Ok}
 use Rattle.plan.specs.declared.Counts.{Counts}
 use Rattle.plan.specs.Planned.{thin, plan_depth, planned, plan_figures, plan_answer, Laid}
 use Rattle.plan.proofs.Accepted.{thin_plan}
-use Rattle.plan.proofs.Checks.{checks_11, checks_passed}
+use Rattle.plan.proofs.Checks.{checks_10, checks_11, checks_passed}
 use Rattle.plan.proofs.Depths.{depth_small}
 use Rattle.plan.proofs.Plans.{plan_agree, thin_agree}
 use Rattle.node_info.specs.declared.Geometry.{Geometry}
@@ -30,6 +31,10 @@ use Rattle.node_info.specs.declared.Geometry.{Geometry}
 either : (a b : Bool) → (a || not b) ≡ not (not a && b)
 either true b = refl
 either false b = refl
+
+-- `Planning::lay_out`, where the search has found no depth.
+pub laid_10 : (n : ℕ) (g : Geometry) → Passed n g → (i : NodeInfo) (cause : Refusal) → HoldsNone n g i cause → refusal_of cause ≡ plan_answer n g
+laid_10 n g pass i cause none = rw (none.is_cause, checks_10 n g pass none.empty) refl
 
 -- `Planning::lay_out`, where the search has found the depth.
 module _ (n : ℕ) (g : Geometry) (pass : Passed n g) (i : NodeInfo) (d : ℕ) (found : Found n g i d) where

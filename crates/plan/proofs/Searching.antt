@@ -1,19 +1,16 @@
 -- The search for the depth, in the forms in which the proof of `deepen` has it.
-use mathlib.Core.Path.{◌≡◌}
-use mathlib.Core.List.{[], ◌∷◌}
+use mathlib.Core.Path.{◌≡◌, sym, ap}
 use Prim.Native.Nat.{ℕ, ◌+◌, ◌≤◌, ◌<◌, zero-le}
 use native.Mathlib.Nat.{le_refl}
 use native.Mathlib.Omega.{arith}
-use Rattle.refusal.specs.Answer.{refused}
+use Rattle.refusal.specs.declared.Refusal.TheVariants.{LevelHoldsNone}
 use Rattle.node_info.specs.Capacity.{subtree_capacity, node_capacity}
 use Rattle.node_info.specs.Table.{info_at, level_in, with_level_above}
 use Rattle.node_info.specs.declared.NodeInfo.{NodeInfo}
 use Rattle.node_info.specs.declared.Geometry.{Geometry}
 use Rattle.node_info.proofs.Columns.{node_entry, subtree_entry}
 use Rattle.node_info.proofs.Growing.{info_more}
-use Rattle.plan.specs.Planned.{plan_answer}
-use Rattle.plan.specs.Steps.{Passed, Found}
-use Rattle.plan.proofs.Checks.{checks_10}
+use Rattle.plan.specs.Steps.{Passed, Found, HoldsNone}
 use Rattle.plan.proofs.Depths.{Tried, tried_none, tried_next, level_low, found_enough, empty_here, empty_test}
 
 module _ (n : ℕ) (g : Geometry) where
@@ -42,11 +39,16 @@ module _ (n : ℕ) (g : Geometry) where
       small : subtree_capacity g u < n
       small = rw subtrees at h
 
-      pub sought_empty : (level_in t u).max_nrec ≡ 0 → refused 10 (u ∷ []) ≡ plan_answer n g
+      pub sought_empty : (level_in t u).max_nrec ≡ 0 → HoldsNone n g t (LevelHoldsNone u)
       sought_empty e =
           let none : node_capacity g u ≡ 0 = rw nodes at e in
           let here = empty_here n g u sought.low sought.tried t sought.table small none in
-          rw (checks_10 n g pass (empty_test n g u sought.low sought.tried t sought.table small none), here)
+          record {
+            low = rw here sought.low;
+            table = rw here sought.table;
+            empty = empty_test n g u sought.low sought.tried t sought.table small none;
+            is_cause = ap LevelHoldsNone (sym here);
+          }
 
       pub sought_turn : ((level_in t u).max_nrec ≡ 0 → ⊥) → Sought (with_level_above g u t) (u + 1)
       sought_turn ne =

@@ -1,6 +1,8 @@
 -- What the planner's private steps ask and give.
 use Rattle.std.specs.Prelude.{◌≡◌, true, false, ◌||◌, List, length, slice_index_or, ℕ, ◌+◌, ◌-◌, ◌*◌, ◌^◌, ◌≤◌, ◌<◌, ltb, eqb}
 use Rattle.numbers.specs.Numbers.{field_size}
+use Rattle.refusal.specs.declared.Refusal.{Refusal}
+use Rattle.refusal.specs.declared.Refusal.TheVariants.{LevelHoldsNone}
 use Rattle.node_info.specs.Table.{info_at, no_level}
 use Rattle.node_info.specs.declared.NodeInfo.{NodeInfo}
 use Rattle.node_info.specs.declared.Level.{Level}
@@ -24,6 +26,13 @@ pub record Found (n : ℕ) (g : Geometry) (info : NodeInfo) (depth : ℕ) : Type
   pub table : info ≡ info_at g depth
   pub holds : (eqb n 0 || ltb (plan_depth n g) (empty_level n g)) ≡ true
   pub is_depth : depth ≡ plan_depth n g
+
+-- The search has ended without: a level needed for the depth holds none, the cause tells the first such level, and the table is that up to it.
+pub record HoldsNone (n : ℕ) (g : Geometry) (info : NodeInfo) (cause : Refusal) : Type 0 where
+  pub low : empty_level n g ≤ 23
+  pub table : info ≡ info_at g (empty_level n g)
+  pub empty : (eqb n 0 || ltb (plan_depth n g) (empty_level n g)) ≡ false
+  pub is_cause : cause ≡ LevelHoldsNone (empty_level n g)
 
 -- The capacity of the subtrees of each of these levels.
 abbrev pub capacity_in : List Level → ℕ → ℕ

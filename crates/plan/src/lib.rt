@@ -4,9 +4,8 @@
 
 ghost use Rattle.std.specs.Prelude.{◌≡◌, not, ◌&&◌, ◌+◌, ◌-◌, ◌^◌, ◌≤◌, ◌<◌, ltb, eqb, IfOk, IfErr};
 ghost use Rattle.numbers.specs.Numbers.{pick};
-ghost use Rattle.refusal.specs.Answer.{refusal_of};
 ghost use Rattle.node_info.specs.Table.{info_at};
-ghost use Rattle.plan.specs.Steps.{Passed, Found, over_children, FewChildren, Countable, Counted};
+ghost use Rattle.plan.specs.Steps.{Passed, Found, HoldsNone, over_children, FewChildren, Countable, Counted};
 ghost use Rattle.plan.specs.Planned.{keeping, distribution, plan_answer, plan_answer_of, Laid};
 
 use node_info::{Geometry, Level, NodeInfo};
@@ -145,7 +144,7 @@ impl Planning {
     fn deepen(&self, info: &mut NodeInfo) -> Result<u16, Refusal>
         requires { info.old ≡ info_at self.now.geometry 0 }
         ensures found { IfOk result (λ depth. Found self.now.record_count self.now.geometry info.new depth) }
-        ensures none { IfErr result (λ cause. refusal_of cause ≡ plan_answer self.now.record_count self.now.geometry) }
+        ensures none { IfErr result (λ cause. HoldsNone self.now.record_count self.now.geometry info.new cause) }
     {
         for depth in 0..NodeInfo::LEVEL_LIMIT {
             let level = info.levels[depth as usize];
@@ -161,7 +160,7 @@ impl Planning {
     }
 
     // The plan and its table. Whether a subtree is too thin is decided at the root.
-    #[tactic(auto, using(crate::proofs::Laying::level_deep, crate::proofs::Laying::laid_11, crate::proofs::Laying::image_fits, crate::proofs::Laying::laid_done))]
+    #[tactic(auto, using(crate::proofs::Laying::level_deep, crate::proofs::Laying::laid_10, crate::proofs::Laying::laid_11, crate::proofs::Laying::image_fits, crate::proofs::Laying::laid_done))]
     fn lay_out(&self) -> Result<PlanAndTable, Refusal>
         ensures { Laid self.now.record_count self.now.geometry result }
     {
