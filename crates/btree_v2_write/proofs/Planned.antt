@@ -95,7 +95,7 @@ front_less (m ∷ []) h = omega arith
 front_less (m ∷ k ∷ ms) h = omega (arith, front_less (k ∷ ms) (omega arith))
 
 -- The bytes of the fields of a pointer to a subtree of depth d.
-abbrev pub child_pointer : Request → ℕ → ChildPointer
+abbrev child_pointer : Request → ℕ → ChildPointer
 child_pointer q d =
     record { offset_size = q.geometry.offset_size; count_size = count_width q.geometry; total_size = total_width q.geometry d }
 

@@ -36,8 +36,8 @@ pub(crate) struct Child {
 }
 
 // An internal node in numbers: its records and those of its children; a child of the larger share and one of the smaller; the bytes of a record
-// count and of a total in a pointer; and the place of the first node and record below it. Nothing bounds these numbers but clauses of functions,
-// since the contracts of filling are of every node.
+// count and of a total in a pointer; and the place of the first node and record below it. No invariant bounds these numbers: the laws of one pass
+// are of every node.
 #[derive(Clone, Copy)]
 pub(crate) struct InternalNode {
     pub(crate) distributed: Distribution,

@@ -1,6 +1,6 @@
 // Writing subtrees, node after node: the children of a node first, and then the node.
 
-ghost use Rattle.std.specs.Prelude.{◌≡◌, ◌+◌, ◌^◌, ◌≤◌, ◌<◌, length};
+ghost use Rattle.std.specs.Prelude.{◌≡◌, ◌+◌, ◌^◌, ◌<◌, length};
 ghost use Rattle.btree_v2_write.specs.Subtrees.{after, RightBelow, Ready, SubtreeWritten};
 
 use crate::filling::WHOLE;
@@ -23,8 +23,8 @@ impl Place {
 impl Writing<'_> {
     // Writes the nodes of a subtree of n records from this place on, and gives the subtree in numbers. The children go first, one after another,
     // and then the root, whose pointers are made of what the children's calls returned: the first child is one of the larger size, where there
-    // is one, and the last one of the smaller. The place reached goes on by what each returned. Of the table it asks that it is right of the levels
-    // below the root's.
+    // is one, and the last one of the smaller. The place reached goes on by what each returned. It asks for a table that is right of the levels below
+    // the root's.
     pub(crate) fn write_subtree(&self, image: &mut [u8], depth: usize, n: u64, at: Place) -> Child
         requires sized { 0 < self.now.request.geometry.record_size }
         requires table { RightBelow self.now.request self.now.info.now depth }

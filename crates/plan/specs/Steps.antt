@@ -27,7 +27,7 @@ pub record Found (n : ℕ) (g : Geometry) (info : NodeInfo) (depth : ℕ) : Type
   pub holds : (eqb n 0 || ltb (plan_depth n g) (empty_level n g)) ≡ true
   pub is_depth : depth ≡ plan_depth n g
 
--- The search has ended without: a level needed for the depth holds none, the cause tells the first such level, and the table is that up to it.
+-- The search has ended without a depth: a level needed for it holds none, the cause tells the first such level, and the table is that up to it.
 pub record HoldsNone (n : ℕ) (g : Geometry) (info : NodeInfo) (cause : Refusal) : Type 0 where
   pub low : empty_level n g ≤ 23
   pub table : info ≡ info_at g (empty_level n g)
