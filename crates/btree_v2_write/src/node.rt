@@ -109,7 +109,13 @@ impl Writing<'_> {
 
     // Puts address, record count and total of a node's pointer to a child as the next fields, those that may still be put; the child's first node
     // is node j.
-    fn put_pointer(&self, filling: &mut Filling<'_>, internal: &InternalNode, child: Child, j: usize)
+    fn put_pointer(
+        &self,
+        filling: &mut Filling<'_>,
+        internal: &InternalNode,
+        child: Child,
+        j: usize,
+    )
         requires { PointerFits self.now.request (length filling.old.node.now) filling.old.at child (pointer_of self.now.request internal.now) j }
         ensures { Filled filling.old (pointer_to self.now.request (pointer_of self.now.request internal.now) child j) filling.new }
     {
